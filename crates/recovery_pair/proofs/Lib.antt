@@ -1,3 +1,6 @@
+pub mod BoundLaws
+pub mod FlightLaws
+pub mod FlightRows
 pub mod FrameLaws
 pub mod GoingLaws
 pub mod HonestLaws

@@ -1,5 +1,6 @@
 -- What a step adds to the log, and what it adds to the past of an end, agree.
-use Rattle.std.proofs.Common.{◌≡◌, ℕ, ◌+◌, ◌≤◌, ◌||◌, Bool, List, ◌∷◌, Option, None, Result, Ok, refl, sym, ap, subst, ◌∙◌, arith}
+use Rattle.std.proofs.Common.{◌≡◌, ℕ, ◌+◌, ◌≤◌, ◌||◌, Bool, true, List, ◌∷◌, Option, None, Result, Ok, refl, sym, ap, subst, ◌∙◌, arith}
+use Rattle.std.specs.Prelude.{if◌then◌else◌}
 use Rattle.std.specs.Global.{Vec}
 use Rattle.recovery_base.specs.declared.below.SpaceId.{SpaceId}
 use Rattle.recovery_history.specs.History.{History}
@@ -9,16 +10,21 @@ use Rattle.recovery_pair.specs.declared.steps.End.TheVariants.{Client, Server}
 use Rattle.recovery_pair.specs.declared.steps.Fate.{Fate}
 use Rattle.recovery_pair.specs.declared.steps.Fate.TheVariants.{Dropped, Duplicate, New}
 use Rattle.recovery_pair.specs.declared.steps.LocalStep.{LocalStep}
-use Rattle.recovery_pair.specs.declared.steps.LocalStep.TheVariants.{AddressValidated, Discard}
+use Rattle.recovery_pair.specs.declared.steps.LocalStep.TheVariants.{AddressValidated, Discard, Expire}
 use Rattle.recovery_pair.specs.declared.steps.PairAnswer.{PairAnswer}
 use Rattle.recovery_pair.specs.declared.steps.PairAnswer.TheVariants.{Arrived, Done, Sent}
 use Rattle.recovery_pair.specs.declared.steps.PairStep.{PairStep}
 use Rattle.recovery_pair.specs.declared.steps.PairStep.TheVariants.{Arrive, Local, Send}
 use Rattle.recovery_pair.specs.Logs.{PairEvent, PairLog, bytes_arrived, bytes_sent, has_validated, numbers_at, other_end, was_discarded}
-use Rattle.recovery_pair.specs.Pasts.{GoesOn, EndTurn, hearing, is_of, leaving, quiet, with_number}
+use Rattle.recovery_pair.specs.Flights.{Numbers, counted_if, ends_by_fate, flight_of}
+use Rattle.recovery_pair.specs.Pasts.{GoesOn, EndTurn, added, hearing, is_of, packet_leaving, quiet, with_number}
 use Rattle.recovery_pair.specs.Tied.{IsLogged, validated_first}
 use Rattle.recovery_pair.specs.Turns.{local_turn, reply_of}
 use Rattle.recovery_pair.proofs.GoingLaws.{at_most, no_less, no_more}
+
+-- the bytes in flight of an end, except for those numbers that are gone
+abbrev pub all_flight : End → Numbers → PairLog → ℕ
+all_flight end = flight_of end (λ window. true)
 
 -- a step adds this to what the log tells of an end
 pub record Adds (turn : EndTurn) (end : End) (event : PairEvent) (log : PairLog) : Type 0 where
@@ -30,6 +36,8 @@ pub record Adds (turn : EndTurn) (end : End) (event : PairEvent) (log : PairLog)
       ≡ (turn.validates || has_validated end first log)
   pub arrived : turn.arrives + bytes_arrived end log ≤ bytes_arrived end (event ∷ log)
   pub left : bytes_sent end (event ∷ log) ≤ turn.leaves + bytes_sent end log
+  pub flight : (gone : Numbers) → all_flight end gone (event ∷ log)
+      ≤ added turn.counts gone + all_flight end (λ space n. turn.ends space n || gone space n) log
 
 pub logged_on : {Q S M P : Type 0} (validated : Bool) (log : PairLog) (event : PairEvent) (end : End) (first : Bool)
     (turn : EndTurn) (past after : History Q S M P) → Adds turn end event log → GoesOn turn past after
@@ -44,18 +52,36 @@ logged_on validated log event end first turn past after adds goes logged = recor
   arrived = let one = goes.arrived in let two = adds.arrived in let old = logged.arrived in
       omega (arith, one, two, old);
   left = let one = goes.left in let two = adds.left in let old = logged.left in omega (arith, one, two, old);
+  flight = λ gone. (
+      let one = goes.flight gone in
+      let two = adds.flight gone in
+      let old = logged.flight (λ space n. turn.ends space n || gone space n) in
+      omega (arith, one, two, old));
 }
+
+none_counted : (rest : ℕ) → 0 + rest ≤ 0 + rest
+none_counted rest = omega arith
 
 -- ---- a packet is sent
 
-module _ (log : PairLog) (there : SpaceId) (now size n : ℕ) (items : Vec ℕ) where
-  pub sending_adds : (end : End) → Adds (leaving size) end (Send end there now size, Ok (Sent n items)) log
+module _ (log : PairLog) (there : SpaceId) (now size n : ℕ) (items : Vec ℕ) (eliciting : Bool) (window : Option ℕ) where
+  counted_here : (is_gone elicits : Bool) (rest : ℕ)
+      → (if is_gone then 0 else counted_if elicits size) + rest ≤ (if is_gone then 0 else counted_if elicits size) +
+      rest
+  counted_here is_gone elicits rest = omega arith
+
+  pub sending_adds : (end : End) → Adds (packet_leaving size (counted_if eliciting size) there n) end (
+    Send end there
+        now size,
+    Ok (Sent n items eliciting window),
+  ) log
   sending_adds Client = record {
     came = λ space. refl;
     discarded = λ space. refl;
     validated = λ first. refl;
     arrived = no_less (bytes_arrived Client log) (bytes_arrived Client log) refl;
     left = at_most (size + bytes_sent Client log) (size + bytes_sent Client log) refl;
+    flight = λ gone. counted_here (gone there n) eliciting (all_flight Client gone log);
   }
   sending_adds Server = record {
     came = λ space. refl;
@@ -63,15 +89,21 @@ module _ (log : PairLog) (there : SpaceId) (now size n : ℕ) (items : Vec ℕ) 
     validated = λ first. refl;
     arrived = no_less (bytes_arrived Server log) (bytes_arrived Server log) refl;
     left = at_most (size + bytes_sent Server log) (size + bytes_sent Server log) refl;
+    flight = λ gone. counted_here (gone there n) eliciting (all_flight Server gone log);
   }
 
-  pub sending_adds_not : (end : End) → Adds quiet (other_end end) (Send end there now size, Ok (Sent n items)) log
+  pub sending_adds_not : (end : End) → Adds quiet (other_end end) (
+    Send end there now size,
+    Ok (Sent n items eliciting
+        window),
+  ) log
   sending_adds_not Client = record {
     came = λ space. refl;
     discarded = λ space. refl;
     validated = λ first. refl;
     arrived = no_less (bytes_arrived Server log) (bytes_arrived Server log) refl;
     left = no_more (bytes_sent Server log) (bytes_sent Server log) refl;
+    flight = λ gone. none_counted (all_flight Server gone log);
   }
   sending_adds_not Server = record {
     came = λ space. refl;
@@ -79,6 +111,7 @@ module _ (log : PairLog) (there : SpaceId) (now size n : ℕ) (items : Vec ℕ) 
     validated = λ first. refl;
     arrived = no_less (bytes_arrived Client log) (bytes_arrived Client log) refl;
     left = no_more (bytes_sent Client log) (bytes_sent Client log) refl;
+    flight = λ gone. none_counted (all_flight Client gone log);
   }
 
 -- ---- a packet arrives
@@ -88,7 +121,8 @@ module _ (log : PairLog) (at now : ℕ) (there : SpaceId) (n size : ℕ) where
   arrival to fate = (Arrive at now, Ok (Arrived to there n size fate))
 
   came_here : (to : End) (fate : Fate) (space : SpaceId) → numbers_at to space (arrival to fate ∷ log)
-      ≡ with_number space (hearing size there n (reply_of fate)).came (numbers_at to space log)
+      ≡ with_number space (hearing size there n (reply_of fate) (ends_by_fate there fate)).came (numbers_at to space
+      log)
   came_here Client (New items acked) space = refl
   came_here Client Duplicate space = refl
   came_here Client (Dropped refusal) space = refl
@@ -114,13 +148,29 @@ module _ (log : PairLog) (at now : ℕ) (there : SpaceId) (n size : ℕ) where
   arrived_there Client fate = no_less (bytes_arrived Server log) (bytes_arrived Server log) refl
   arrived_there Server fate = no_less (bytes_arrived Client log) (bytes_arrived Client log) refl
 
-  pub arriving_adds : (to : End) (fate : Fate) → Adds (hearing size there n (reply_of fate)) to (arrival to fate) log
+  ended_here : (to : End) (fate : Fate) (gone : Numbers) → all_flight to gone (arrival to fate ∷ log)
+      ≤ 0 + all_flight to (λ space m. ends_by_fate there fate space m || gone space m) log
+  ended_here Client fate gone = no_more _ (all_flight Client (λ space m. ends_by_fate there fate space m || gone space
+      m)
+      log) refl
+  ended_here Server fate gone = no_more _ (all_flight Server (λ space m. ends_by_fate there fate space m || gone space
+      m)
+      log) refl
+
+  ended_there : (to : End) (fate : Fate) (gone : Numbers) → all_flight (other_end to) gone (arrival to fate ∷ log)
+      ≤ 0 + all_flight (other_end to) gone log
+  ended_there Client fate gone = no_more _ (all_flight Server gone log) refl
+  ended_there Server fate gone = no_more _ (all_flight Client gone log) refl
+
+  pub arriving_adds : (to : End) (fate : Fate)
+      → Adds (hearing size there n (reply_of fate) (ends_by_fate there fate)) to (arrival to fate) log
   arriving_adds to fate = record {
     came = came_here to fate;
     discarded = λ space. refl;
     validated = λ first. refl;
     arrived = arrived_here to fate;
     left = no_more (bytes_sent to log) (bytes_sent to log) refl;
+    flight = ended_here to fate;
   }
 
   pub arriving_adds_not : (to : End) (fate : Fate) → Adds quiet (other_end to) (arrival to fate) log
@@ -130,12 +180,13 @@ module _ (log : PairLog) (at now : ℕ) (there : SpaceId) (n size : ℕ) where
     validated = λ first. refl;
     arrived = arrived_there to fate;
     left = no_more (bytes_sent (other_end to) log) (bytes_sent (other_end to) log) refl;
+    flight = ended_there to fate;
   }
 
 -- ---- steps that report no packet
 
 abbrev pub IsNoPacket : PairEvent → Type 0
-IsNoPacket (step, Ok (Sent number items)) = ⊥
+IsNoPacket (step, Ok (Sent number items eliciting window)) = ⊥
 IsNoPacket (step, Ok (Arrived to space number size fate)) = ⊥
 IsNoPacket event = Unit {0}
 
@@ -154,8 +205,15 @@ module _ (log : PairLog) (end : End) where
   none_arrived event none = refl
 
   none_left : (event : PairEvent) → IsNoPacket event → bytes_sent end (event ∷ log) ≡ bytes_sent end log
-  none_left (Send from there now size, Ok (Sent number items)) none = absurd none
+  none_left (Send from there now size, Ok (Sent number items eliciting window)) none = absurd none
   none_left event none = refl
+
+  none_ended : (step : PairStep) (answer : Result PairAnswer SenderError) → IsNoPacket (step, answer)
+      → IsNotLocal step → (gone : Numbers) → all_flight end gone ((step, answer) ∷ log) ≡ all_flight end gone log
+  none_ended (Local at step) answer none other gone = absurd other
+  none_ended (Send from there now size) (Ok (Sent number items eliciting window)) none other gone = absurd none
+  none_ended (Arrive at now) (Ok (Arrived to there number size fate)) none other gone = absurd none
+  none_ended step answer none other gone = refl
 
   no_discard : (step : PairStep) (answer : Result PairAnswer SenderError) → IsNotLocal step → (space : SpaceId)
       → was_discarded end space ((step, answer) ∷ log) ≡ was_discarded end space log
@@ -175,6 +233,7 @@ module _ (log : PairLog) (end : End) where
     validated = no_validation step answer other;
     arrived = no_less _ _ (none_arrived (step, answer) none);
     left = no_more _ _ (none_left (step, answer) none);
+    flight = λ gone. no_more _ _ (none_ended step answer none other gone);
   }
 
 -- ---- something happens at one end
@@ -214,19 +273,78 @@ module _ (log : PairLog) where
   validates_there end AddressValidated answer first = refl
   validates_there end step answer first = refl
 
+  ends_here : (end : End) (step : LocalStep) (answer : Result PairAnswer SenderError) → IsNoPacket (
+    Local end step,
+    answer,
+  )
+      → (gone : Numbers) → all_flight end gone ((Local end step, answer) ∷ log)
+      ≡ all_flight end (λ space n. (local_turn step answer).ends space n || gone space n) log
+  ends_here end step (Ok (Arrived to there number size fate)) none gone = absurd none
+  ends_here Client (Discard there now) (Ok Done) none gone = refl
+  ends_here Server (Discard there now) (Ok Done) none gone = refl
+  ends_here end (Discard there now) answer none gone = refl
+  ends_here Client (Expire now) answer none gone = refl
+  ends_here Server (Expire now) answer none gone = refl
+  ends_here end AddressValidated (Ok Done) none gone = refl
+  ends_here end AddressValidated answer none gone = refl
+  ends_here end step answer none gone = refl
+
+  ends_there : (end : End) (step : LocalStep) (answer : Result PairAnswer SenderError)
+      → IsNoPacket (Local end step, answer) → (gone : Numbers)
+      → all_flight (other_end end) gone ((Local end step, answer) ∷ log) ≡ all_flight (other_end end) gone log
+  ends_there end step (Ok (Arrived to there number size fate)) none gone = absurd none
+  ends_there Client (Discard there now) (Ok Done) none gone = refl
+  ends_there Server (Discard there now) (Ok Done) none gone = refl
+  ends_there end (Discard there now) answer none gone = refl
+  ends_there Client (Expire now) answer none gone = refl
+  ends_there Server (Expire now) answer none gone = refl
+  ends_there end step answer none gone = refl
+
   -- it moves no packet
   pub record MovesNone (turn : EndTurn) : Type 0 where
     pub came : turn.came ≡ None
     pub heard : turn.heard ≡ None
     pub arrives : turn.arrives ≡ 0
     pub leaves : turn.leaves ≡ 0
+    pub counts : turn.counts ≡ None
 
   pub local_moves : (step : LocalStep) (answer : Result PairAnswer SenderError) → MovesNone (local_turn step answer)
-  local_moves (Discard there now) (Ok Done) = record { came = refl; heard = refl; arrives = refl; leaves = refl }
-  local_moves (Discard there now) answer = record { came = refl; heard = refl; arrives = refl; leaves = refl }
-  local_moves AddressValidated (Ok Done) = record { came = refl; heard = refl; arrives = refl; leaves = refl }
-  local_moves AddressValidated answer = record { came = refl; heard = refl; arrives = refl; leaves = refl }
-  local_moves step answer = record { came = refl; heard = refl; arrives = refl; leaves = refl }
+  local_moves (Discard there now) (Ok Done) = record {
+    came = refl;
+    heard = refl;
+    arrives = refl;
+    leaves = refl;
+    counts
+        = refl;
+  }
+  local_moves (Discard there now) answer = record {
+    came = refl;
+    heard = refl;
+    arrives = refl;
+    leaves = refl;
+    counts =
+        refl;
+  }
+  local_moves AddressValidated (Ok Done) = record {
+    came = refl;
+    heard = refl;
+    arrives = refl;
+    leaves = refl;
+    counts =
+        refl;
+  }
+  local_moves AddressValidated answer = record {
+    came = refl;
+    heard = refl;
+    arrives = refl;
+    leaves = refl;
+    counts =
+        refl;
+  }
+  local_moves step answer = record { came = refl; heard = refl; arrives = refl; leaves = refl; counts = refl }
+
+  added_none : (counts : Option (SpaceId × ℕ × ℕ)) (gone : Numbers) → counts ≡ None → added counts gone ≡ 0
+  added_none counts gone none = subst (λ (one : Option (SpaceId × ℕ × ℕ)). added one gone ≡ 0) (sym none) refl
 
   with_none : (space : SpaceId) (number : Option (SpaceId × ℕ)) (before : List ℕ) → number ≡ None
       → with_number space number before ≡ before
@@ -246,6 +364,9 @@ module _ (log : PairLog) where
             omega (arith, is, same);
         left = let is = moves.leaves in let same = none_left log end (Local end step, answer) none in
             omega (arith, is, same);
+        flight = λ gone. (
+            let none_added = added_none (local_turn step answer).counts gone moves.counts in
+            let same = ends_here end step answer none gone in omega (arith, none_added, same));
       }
 
   pub local_adds_not : (end : End) (step : LocalStep) (answer : Result PairAnswer SenderError)
@@ -256,4 +377,5 @@ module _ (log : PairLog) where
     validated = validates_there end step answer;
     arrived = no_less _ _ (none_arrived log (other_end end) (Local end step, answer) none);
     left = no_more _ _ (none_left log (other_end end) (Local end step, answer) none);
+    flight = λ gone. no_more _ _ (ends_there end step answer none gone);
   }

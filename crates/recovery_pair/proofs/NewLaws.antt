@@ -44,6 +44,7 @@ new_logged validated end first past same goes = record {
   address = goes.validated first ∙ same;
   arrived = goes.arrived;
   left = goes.left;
+  flight = λ gone. omega arith;
 }
 
 client_first : (first validated : Bool) → (first || true) ≡ true
@@ -105,6 +106,7 @@ module _ {F Q R C K S M P : Type 0} {f : _} {c : _} {q : _} {m : _} {r : _} wher
                   (server_first others.validated) peer.goes;
               listed = refl;
               wired = tt;
+              within = λ one. omega arith;
             };
         own_waits = λ space. omega arith;
         peer_waits = λ space. omega arith;

@@ -1,5 +1,5 @@
 -- A datagram goes out, or is held back, by what the sender says of it.
-use Rattle.std.proofs.Common.{◌≡◌, ℕ, false, List, Result, Ok}
+use Rattle.std.proofs.Common.{◌≡◌, ℕ, Bool, false, List, Option, Result, Ok}
 use Rattle.recovery_base.specs.declared.below.SpaceId.{SpaceId}
 use Rattle.recovery_sender.specs.declared.sender.Sender.{Sender}
 use Rattle.recovery_sender.specs.declared.sender.SenderError.{SenderError}
@@ -12,29 +12,41 @@ use Rattle.recovery_pair.specs.declared.steps.End.{End}
 use Rattle.recovery_pair.specs.declared.steps.End.TheVariants.{Client, Server}
 use Rattle.recovery_pair.specs.declared.steps.PairAnswer.{PairAnswer}
 use Rattle.recovery_pair.specs.Permits.{AgreesAlready, AgreesWith, HoldsAt, PermitsAnswer, PermitsOutcome}
+use Rattle.recovery_pair.specs.Turns.{PackTurn}
 use Rattle.recovery_pair.specs.Waits.{PackWaits}
 
 -- a permitted packet is sent, or fails
-pub packed_agrees : (said : Result Transmission SenderError) (old new : List Waiting) (space : SpaceId)
-    (outcome : Outgoing) → said ≡ Ok Transmitted → PackWaits old new space outcome → AgreesAlready said (Ok outcome)
-packed_agrees said old new space (Sent packet items) is waits = is
-packed_agrees said old new space (Failed refusal) is waits = is
-packed_agrees said old new space (Held held) is waits = absurd waits
-packed_agrees said old new space Nothing is waits = tt
+pub packed_agrees : {F Q R C K S M P : Type 0} {f : _} {c : _} {q : _} {m : _} {r : _}
+    (before after : Sender F Q R C K S M P f c q m r) (from : End) (space : SpaceId) (size : ℕ) (eliciting : Bool)
+    (checked : Option ℕ) (ranges : List (ℕ × ℕ)) (said : Result Transmission SenderError) (old new : List Waiting)
+    (outcome : Outgoing) → said ≡ Ok Transmitted
+    → PackTurn before after from space size eliciting checked ranges outcome → PackWaits old new space outcome
+    → AgreesAlready eliciting checked said (Ok outcome)
+packed_agrees before after from space size eliciting checked ranges said old new (Sent packet items window) is turn
+    waits =
+    (is, turn.elicits, turn.window_is)
+packed_agrees before after from space size eliciting checked ranges said old new (Failed refusal) is turn waits = is
+packed_agrees before after from space size eliciting checked ranges said old new (Held held) is turn waits =
+    absurd waits
+packed_agrees before after from space size eliciting checked ranges said old new Nothing is turn waits = tt
 
 pub permits_at : {F Q R C K S M P : Type 0} {f : _} {c : _} {q : _} {m : _} {r : _} (end : End) (space : SpaceId)
     (now size : ℕ) (outcome : Result Outgoing SenderError) (answer : Result PairAnswer SenderError)
     (client server : Sender F Q R C K S M P f c q m r)
-    → ((said : Result Transmission SenderError) → AgreesAlready said outcome → AgreesWith said answer)
+    → ((in_flight : Bool) (checked : Option ℕ) (said : Result Transmission SenderError)
+    → AgreesAlready in_flight checked said outcome → AgreesWith in_flight checked said answer)
     → HoldsAt end (PermitsOutcome space now size outcome) client server
     → HoldsAt end (PermitsAnswer space now size answer) client server
-permits_at Client space now size outcome answer client server agrees permits = (permits.0, agrees _ permits.1)
-permits_at Server space now size outcome answer client server agrees permits = (permits.0, agrees _ permits.1)
+permits_at Client space now size outcome answer client server agrees permits =
+    (permits.0, agrees permits.0 _ _ permits.1)
+permits_at Server space now size outcome answer client server agrees permits =
+    (permits.0, agrees permits.0 _ _ permits.1)
 
 -- of an answer that says nothing
 pub permits_none : {F Q R C K S M P : Type 0} {f : _} {c : _} {q : _} {m : _} {r : _} (end : End) (space : SpaceId)
     (now size : ℕ) (answer : Result PairAnswer SenderError) (client server : Sender F Q R C K S M P f c q m r)
-    → ((said : Result Transmission SenderError) → AgreesWith said answer)
+    → ((in_flight : Bool) (checked : Option ℕ) (said : Result Transmission SenderError)
+    → AgreesWith in_flight checked said answer)
     → HoldsAt end (PermitsAnswer space now size answer) client server
-permits_none Client space now size answer client server agrees = (false, agrees _)
-permits_none Server space now size answer client server agrees = (false, agrees _)
+permits_none Client space now size answer client server agrees = (false, agrees false _ _)
+permits_none Server space now size answer client server agrees = (false, agrees false _ _)

@@ -1,5 +1,5 @@
 -- What was handed over was sent, or waits: step by step.
-use Rattle.std.proofs.Common.{◌≡◌, ℕ, ◌+◌, ◌≤◌, Bool, true, false, List, ◌∷◌, Result, Ok, Err, refl, sym, subst, arith}
+use Rattle.std.proofs.Common.{◌≡◌, ℕ, ◌+◌, ◌≤◌, Bool, true, false, List, ◌∷◌, Option, Result, Ok, Err, refl, sym, subst, arith}
 use Rattle.std.specs.Prelude.{IfOk}
 use Rattle.std.specs.Global.{Vec}
 use Rattle.recovery_base.specs.declared.below.SpaceId.{SpaceId}
@@ -103,6 +103,8 @@ step_keeps client server client_after server_after wire wire_after client_waits 
         delivered = one.0.delivered;
         arrives = one.0.arrives;
         limited = one.0.limited;
+        window = one.0.window;
+        flight = one.0.flight;
         sends = two.0;
         local = local;
       },
@@ -111,31 +113,33 @@ step_keeps client server client_after server_after wire wire_after client_waits 
 
 -- ---- a packet is sent
 
-module _ (log : PairLog) (space : SpaceId) (now size n : ℕ) (items : Vec ℕ) where
+module _ (log : PairLog) (space : SpaceId) (now size n : ℕ) (items : Vec ℕ) (eliciting : Bool) (window : Option ℕ) where
   sent_here : (end : End) (there : SpaceId)
-      → sent_in end there ((Send end space now size, Ok (Sent n items)) ∷ log)
+      → sent_in end there ((Send end space now size, Ok (Sent n items eliciting window)) ∷ log)
       ≡ more_if (same_space space there) (sent_in end there log)
   sent_here Client there = refl
   sent_here Server there = refl
 
-  sent_not : (end : End) → LeavesQueue (Send end space now size, Ok (Sent n items)) log (other_end end)
+  sent_not : (end : End) → LeavesQueue (Send end space now size, Ok (Sent n items eliciting window)) log (other_end end)
   sent_not Client = record { handed_same = λ there. refl; sent_same = λ there. refl }
   sent_not Server = record { handed_same = λ there. refl; sent_same = λ there. refl }
 
-pub sent_queue : (end : End) (space : SpaceId) (now size n : ℕ) (items : Vec ℕ)
+pub sent_queue : (end : End) (space : SpaceId) (now size n : ℕ) (items : Vec ℕ) (eliciting : Bool)
+    (window : Option ℕ)
     (client server client_after server_after : List Waiting)
     → TurnsAt end (λ (old new : List Waiting). LosesOne old new space) client server client_after server_after
-    → QueueKept client server (Send end space now size) (Ok (Sent n items)) client_after server_after
-sent_queue end space now size n items =
-    queue_turn end (λ (old new : List Waiting). LosesOne old new space) (Send end space now size) (Ok (Sent n items))
-    here (λ log. sent_not log space now size n items end)
+    → QueueKept client server (Send end space now size) (Ok (Sent n items eliciting window)) client_after server_after
+sent_queue end space now size n items eliciting window =
+    queue_turn end (λ (old new : List Waiting). LosesOne old new space) (Send end space now size) (Ok (Sent n items
+    eliciting window))
+    here (λ log. sent_not log space now size n items eliciting window end)
   where
     here : (old new : List Waiting) → LosesOne old new space
-        → QueueKeptAt end (Send end space now size) (Ok (Sent n items)) old new
+        → QueueKeptAt end (Send end space now size) (Ok (Sent n items eliciting window)) old new
     here old new loses log queued = (
       tt,
       λ there. subst (λ (sent : ℕ). handed end there log ≤ waiting_in there new + sent)
-          (sym (sent_here log space now size n items end there))
+          (sym (sent_here log space now size n items eliciting window end there))
           (more_both (same_space space there) (handed end there log) (waiting_in there old) (sent_in end there log)
           (waiting_in there new) (queued there) (loses there)),
     )
@@ -199,7 +203,7 @@ module _ (log : PairLog) where
 
   local_sends : (end : End) (step : LocalStep) (answer : Result PairAnswer SenderError)
       → IsNoPacket (Local end step, answer) → SendsWhatWaits log (Local end step, answer)
-  local_sends end step (Ok (Sent number items)) none = absurd none
+  local_sends end step (Ok (Sent number items eliciting window)) none = absurd none
   local_sends end step answer none = tt
 
   local_here : (end : End) (step : LocalStep) (answer : Result PairAnswer SenderError) (old new : List Waiting)

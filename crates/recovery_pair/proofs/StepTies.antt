@@ -1,5 +1,5 @@
 -- Each step of an end keeps the promises, and the tie of the log. It is proved once, for the end that makes it.
-use Rattle.std.proofs.Common.{◌≡◌, ℕ, nat_le, ◌<◌, ◌≤◌, ◌⊎◌, inl, inr, Bool, true, false, List, [], ◌∷◌, ◌++◌, length, get_or, None, Result, Ok, refl, sym, ap, subst, ◌∙◌, arith}
+use Rattle.std.proofs.Common.{◌≡◌, ℕ, nat_le, ◌<◌, ◌≤◌, ◌⊎◌, inl, inr, Bool, true, false, List, [], ◌∷◌, ◌++◌, length, get_or, ◌+◌, Option, None, Some, Result, Ok, refl, sym, ap, subst, ◌∙◌, arith}
 use Rattle.std.specs.Prelude.{IfOk, map}
 use Rattle.std.specs.Global.{Vec}
 use Rattle.std.specs.List.{AllByRecursion}
@@ -10,8 +10,9 @@ use Rattle.recovery_base.specs.Units.{number_limit}
 use Rattle.recovery_events.specs.declared.event.Refusal.TheVariants.{NoMemory, NumberTooLarge, SpaceDiscarded}
 use Rattle.recovery_losses.specs.Frames.{IsInAckRanges}
 use Rattle.recovery_paths.specs.declared.path_pair.PathName.TheVariants.{Current}
-use Rattle.recovery_history.specs.History.{History}
+use Rattle.recovery_history.specs.History.{History, begins, queue_model}
 use Rattle.recovery_history.specs.Promises.NewNumbers.{came_in, is_discarded, is_new}
+use Rattle.recovery_sender.specs.Senders.{state_in}
 use Rattle.recovery_sender.specs.declared.sender.Sender.{Sender}
 use Rattle.recovery_sender.specs.declared.sender.SenderError.{SenderError}
 use Rattle.recovery_sender.specs.declared.sender.SenderError.TheVariants.{Event}
@@ -31,14 +32,20 @@ use Rattle.recovery_pair.specs.declared.steps.PairStep.TheVariants.{Arrive, Loca
 use Rattle.recovery_pair.specs.declared.steps.WirePacket.{WirePacket}
 use Rattle.recovery_pair.specs.Frames.{IsSoundFrame}
 use Rattle.recovery_pair.specs.Logs.{IsAt, PairEvent, PairLog, LoggedPacket, deliveries_of, numbers_at, other_end, sends_of, was_discarded, wire_of}
-use Rattle.recovery_pair.specs.Pasts.{AcksWithin, Continues, GoesOn, GoesOnQuietly, HearsNumber, IsHeardBy, SendsWithAck, EndTurn, WereSentUnder, hearing, leaving, quiet}
+use Rattle.recovery_pair.specs.Flights.{Numbers, counted_if, ends_by_ack, ends_by_fate, no_numbers}
+use Rattle.recovery_pair.specs.Pasts.{AcksWithin, Continues, GoesOn, GoesOnQuietly, HearsNumber, IsHeardBy, SendsWithAck, EndTurn, WereSentUnder, hearing, packet_leaving, quiet}
+use Rattle.recovery_pair.specs.Permits.{FitsChecked}
 use Rattle.recovery_pair.specs.Promises.Arrivals.{ArrivesAsSent, Delivers, IsArrival, IsFateBy, IsFirstDelivery}
 use Rattle.recovery_pair.specs.Promises.DeliveredOnce.{AcksDelivered}
 use Rattle.recovery_pair.specs.Promises.Locals.{IsLocalAnswer}
 use Rattle.recovery_pair.specs.Promises.NeverAccused.{NeverAccuses}
+use Rattle.recovery_pair.specs.Promises.Excess.{ExceedsByProbes}
 use Rattle.recovery_pair.specs.Promises.Threefold.{ServerSendsThreefold}
+use Rattle.recovery_pair.specs.Promises.Window.{SendsWithinWindow}
 use Rattle.recovery_pair.specs.Tied.{Flows, HasPast, IsLogged, IsOnWire, IsTiedAt, Travels, sent_as}
 use Rattle.recovery_pair.specs.Turns.{HearTurn, HearsPacket, SendsPacket, TurnsAt, local_turn, reply_of}
+use Rattle.recovery_pair.proofs.BoundLaws.{exceeds_by, within_on}
+use Rattle.recovery_pair.proofs.FlightLaws.{flight_counted}
 use Rattle.recovery_pair.proofs.GoingLaws.{quiet_none}
 use Rattle.recovery_pair.proofs.LogLaws.{Adds, IsNoPacket, IsNotLocal, arriving_adds, arriving_adds_not, idle_adds, local_adds, local_adds_not, local_moves, logged_on, sending_adds, sending_adds_not}
 use Rattle.recovery_pair.proofs.QuietLaws.{same_quietly}
@@ -62,6 +69,8 @@ pub record KeepsExchange (validated : Bool) (log : PairLog) (event : PairEvent) 
   pub delivered : AcksDelivered log event
   pub arrives : ArrivesAsSent log event
   pub limited : ServerSendsThreefold validated (event ∷ log)
+  pub window : SendsWithinWindow log event
+  pub flight : ExceedsByProbes (event ∷ log)
 
 -- ---- one end makes a step, the other does nothing
 
@@ -94,6 +103,7 @@ module _ {F Q R C K S M P : Type 0} {f : _} {c : _} {q : _} {m : _} {r : _} wher
     peer_logged = rw (twice end) tied.logged;
     listed = tied.listed;
     wired = tied.wired;
+    within = tied.within;
   }
 
   -- what holds for the end that makes a step holds for both
@@ -138,13 +148,13 @@ module _ {F Q R C K S M P : Type 0} {f : _} {c : _} {q : _} {m : _} {r : _} (val
 -- ---- steps by which nothing is sent, and nothing new arrives
 
 abbrev pub IsSilent : PairEvent → Type 0
-IsSilent (step, Ok (Sent number items)) = ⊥
+IsSilent (step, Ok (Sent number items eliciting window)) = ⊥
 IsSilent (step, Ok (Arrived to space number size (New items acked))) = ⊥
 IsSilent event = Unit {0}
 
 silent_sends : (event : PairEvent) → IsSilent event → (log : PairLog) (end : End) (space : SpaceId) (n : ℕ)
     → sends_of end space n (event ∷ log) ≡ sends_of end space n log
-silent_sends (Send from there now size, Ok (Sent number items)) silent log end space n = absurd silent
+silent_sends (Send from there now size, Ok (Sent number items eliciting window)) silent log end space n = absurd silent
 silent_sends event silent log end space n = refl
 
 silent_takes : (event : PairEvent) → IsSilent event → (log : PairLog) (end : End) (space : SpaceId) (n : ℕ)
@@ -153,12 +163,16 @@ silent_takes (step, Ok (Arrived to there number size (New items acked))) silent 
 silent_takes event silent log end space n = refl
 
 silent_wire : (event : PairEvent) → IsSilent event → (log : PairLog) → wire_of (event ∷ log) ≡ wire_of log
-silent_wire (Send from there now size, Ok (Sent number items)) silent log = absurd silent
+silent_wire (Send from there now size, Ok (Sent number items eliciting window)) silent log = absurd silent
 silent_wire event silent log = refl
 
 silent_honest : (event : PairEvent) → IsSilent event → NeverAccuses event
 silent_honest (step, Ok (Arrived to there number size (New items acked))) silent = absurd silent
 silent_honest event silent = tt
+
+silent_window : (log : PairLog) (event : PairEvent) → IsSilent event → SendsWithinWindow log event
+silent_window log (Send from there now size, Ok (Sent number items eliciting (Some window))) silent = absurd silent
+silent_window log event silent = tt
 
 silent_delivers : (log : PairLog) (event : PairEvent) → IsSilent event → AcksDelivered log event
 silent_delivers log (step, Ok (Arrived to there number size (New items acked))) silent = absurd silent
@@ -211,6 +225,7 @@ module _ {F Q R C K S M P : Type 0} {f : _} {c : _} {q : _} {m : _} {r : _} (end
           acks = λ n is. (let was = on.acks n is in
               (was.0, silent_takes event silent log packet.from packet.space n ∙ was.1));
         }) wire tied.wired;
+        within = within_on log event (silent_window log event silent) tied.within;
       }
 
   pub silent_step : ArrivesAsSent log (step, answer) → KeepsExchange validated log (step, answer)
@@ -221,6 +236,8 @@ module _ {F Q R C K S M P : Type 0} {f : _} {c : _} {q : _} {m : _} {r : _} (end
       delivered = silent_delivers log (step, answer) silent;
       arrives = arrives;
       limited = threefold_at validated ((step, answer) ∷ log) end after there wire tied_still;
+      window = silent_window log (step, answer) silent;
+      flight = exceeds_by ((step, answer) ∷ log) tied_still.within;
     },
     tied_still,
   )
@@ -243,31 +260,38 @@ sent_same : (end : End) (size : ℕ) (items : Vec ℕ) (packet : WirePacket) →
 sent_same end size items packet sender sized told = rw (sender, sized, told) refl
 
 module _ {Q S M P : Type 0} (log : PairLog) (now size : ℕ) (end : End) (past after peer : History Q S M P)
-    (packet : WirePacket) (items : Vec ℕ) (wire : List WirePacket) (sender : packet.from ≡ end)
+    (packet : WirePacket) (items : Vec ℕ) (window : Option ℕ) (wire : List WirePacket) (sender : packet.from ≡ end)
     (told : items.items ≡ packet.items.items) (sound : IsSoundFrame packet.ranges.items)
-    (sends : SendsWithAck size packet.space packet.number packet.ranges.items past after)
+    (sends : SendsWithAck size (counted_if packet.eliciting size) packet.space packet.number packet.ranges.items past
+    after)
     (flows : Flows log end past peer) (back : Flows log (other_end end) peer past)
     (wired : AllByRecursion (IsOnWire log) wire) where
   abbrev sent_log : PairLog
-  sent_log = sending log packet.space now size packet.number items end ∷ log
+  sent_log = sending log packet.space now size packet.number items packet.eliciting window end ∷ log
 
   out_sent : Flows sent_log end after peer
-  out_sent = flows_sent log packet.space now size packet.number items end past after peer sends.sends flows
+  out_sent = flows_sent log packet.space now size packet.number items packet.eliciting window end past after peer
+      (counted_if packet.eliciting size)
+      sends.sends flows
 
   back_sent : Flows sent_log (other_end end) peer after
-  back_sent = flows_kept log sent_log (other_end end) (leaving size) peer peer past after
-      (other_sends log packet.space now size packet.number items end) (λ space n. refl) (λ space n given. given) refl
+  back_sent = flows_kept log sent_log (other_end end)
+      (packet_leaving size (counted_if packet.eliciting size) packet.space packet.number) peer peer past after
+      (other_sends log packet.space now size packet.number items packet.eliciting window end) (λ space n. refl) (λ
+      space n given. given) refl
       sends.sends.goes back
 
   still_by : (from : End) (space : SpaceId) (n : ℕ) (before : List ℕ) → (from ≡ end) ⊎ (from ≡ other_end end)
       → sends_of from space n log ≡ before ∷ [] → sends_of from space n sent_log ≡ before ∷ []
   still_by from space n before (inl same) once =
       subst (λ (e : End). sends_of e space n sent_log ≡ before ∷ []) (sym same)
-      (sends_kept log packet.space now size packet.number items end past after peer sends.sends flows space n before
+      (sends_kept log packet.space now size packet.number items packet.eliciting window end past after peer (counted_if
+      packet.eliciting size)
+      sends.sends flows space n before
       (subst (λ (e : End). sends_of e space n log ≡ before ∷ []) same once))
   still_by from space n before (inr same) once =
       subst (λ (e : End). sends_of e space n sent_log ≡ before ∷ []) (sym same)
-      (other_sends log packet.space now size packet.number items end space n
+      (other_sends log packet.space now size packet.number items packet.eliciting window end space n
       ∙ subst (λ (e : End). sends_of e space n log ≡ before ∷ []) same once)
 
   on_still : (one : WirePacket) → IsOnWire log one → IsOnWire sent_log one
@@ -286,7 +310,9 @@ module _ {Q S M P : Type 0} (log : PairLog) (now size : ℕ) (end : End) (past a
   last_on : IsOnWire sent_log packet
   last_on = record {
     sent = subst (λ (e : End). sends_of e packet.space packet.number sent_log ≡ packet.items.items ∷ []) (sym sender)
-        (sent_once log packet.space now size packet.number items end past after peer sends.sends flows
+        (sent_once log packet.space now size packet.number items packet.eliciting window end past after peer
+        (counted_if packet.eliciting size)
+        sends.sends flows
         ∙ ap (λ (all : List ℕ). all ∷ []) told);
     sound = sound;
     acks = acks_sent;
@@ -296,16 +322,31 @@ module _ {Q S M P : Type 0} (log : PairLog) (now size : ℕ) (end : End) (past a
   wired_sent = all_push (IsOnWire sent_log) wire packet
       (all_map (IsOnWire log) (IsOnWire sent_log) on_still wire wired) last_on
 
+added_fits : (logged known counted size room : ℕ) → logged ≤ known → known ≤ counted → counted + size ≤ room
+    → logged + size ≤ room
+added_fits logged known counted size room one two three = omega (arith, one, two, three)
+
 module _ {F Q R C K S M P : Type 0} {f : _} {c : _} {q : _} {m : _} {r : _} (end : End) (now size : ℕ)
-    (packet : WirePacket) (items : Vec ℕ) (wire : List WirePacket)
+    (packet : WirePacket) (items : Vec ℕ) (window : Option ℕ) (wire : List WirePacket)
     (here there after : Sender F Q R C K S M P f c q m r)
-    (is : SendsPacket here after end packet.space size packet items) (validated : Bool) (log : PairLog)
+    (is : SendsPacket here after end packet.space size packet items window) (validated : Bool) (log : PairLog)
     (tied : IsTiedAt validated end log here there wire) where
-  tied_sent : IsTiedAt validated end (sending log packet.space now size packet.number items end ∷ log) after there
+  -- it fits into the window that is checked, by the log
+  fits_by : (checked : Option ℕ) → FitsChecked here size checked → SendsWithinWindow log
+      (Send end packet.space now size, Ok (Sent packet.number items packet.eliciting checked))
+  fits_by None fits = tt
+  fits_by (Some room) fits =
+      let known = tied.logged.flight no_numbers in
+      let counted = flight_counted (begins f.built c.words (queue_model q.contents q.words q.blank) tied.own.config
+      tied.own.start tied.own.random) tied.own.past (state_in here) tied.own.came in
+      added_fits _ _ _ size room known counted fits
+
+  tied_sent : IsTiedAt validated end (sending log packet.space now size packet.number items packet.eliciting window end
+      ∷ log) after there
       (wire ++ packet ∷ [])
   tied_sent =
       let own = is.goes.from tied.own.config tied.own.start tied.own.random tied.own.past tied.own.came in
-      let event : PairEvent = sending log packet.space now size packet.number items end in
+      let event : PairEvent = sending log packet.space now size packet.number items packet.eliciting window end in
       record {
         own = record {
           config = tied.own.config;
@@ -315,14 +356,17 @@ module _ {F Q R C K S M P : Type 0} {f : _} {c : _} {q : _} {m : _} {r : _} (end
           came = own.1;
         };
         peer = tied.peer;
-        out = out_sent log now size end tied.own.past own.0 tied.peer.past packet items wire is.sender is.told is.sound
+        out = out_sent log now size end tied.own.past own.0 tied.peer.past packet items window wire is.sender is.told
+            is.sound
             own.2 tied.out tied.back tied.wired;
-        back = back_sent log now size end tied.own.past own.0 tied.peer.past packet items wire is.sender is.told
+        back = back_sent log now size end tied.own.past own.0 tied.peer.past packet items window wire is.sender is.told
             is.sound own.2 tied.out tied.back tied.wired;
-        logged = logged_on validated log event end tied.own.config.validated (leaving size) tied.own.past own.0
-            (sending_adds log packet.space now size packet.number items end) own.2.sends.goes tied.logged;
+        logged = logged_on validated log event end tied.own.config.validated
+            (packet_leaving size (counted_if packet.eliciting size) packet.space packet.number) tied.own.past own.0
+            (sending_adds log packet.space now size packet.number items packet.eliciting window end) own.2.sends.goes
+            tied.logged;
         peer_logged = logged_on validated log event (other_end end) tied.peer.config.validated quiet tied.peer.past
-            tied.peer.past (sending_adds_not log packet.space now size packet.number items end)
+            tied.peer.past (sending_adds_not log packet.space now size packet.number items packet.eliciting window end)
             (quiet_none tied.peer.past) tied.peer_logged;
         listed = ap (λ (sent : List LoggedPacket). sent ++ record {
           from = end;
@@ -333,50 +377,65 @@ module _ {F Q R C K S M P : Type 0} {f : _} {c : _} {q : _} {m : _} {r : _} (end
         } ∷ []) tied.listed
             ∙ ap (λ (last : LoggedPacket). map sent_as wire ++ last ∷ [])
             (sent_same end size items packet is.sender is.sized is.told) ∙ sym (map_push wire packet);
-        wired = wired_sent log now size end tied.own.past own.0 tied.peer.past packet items wire is.sender is.told
+        wired = wired_sent log now size end tied.own.past own.0 tied.peer.past packet items window wire is.sender
+            is.told
             is.sound own.2 tied.out tied.back tied.wired;
+        within = within_on log event (fits_by window is.fits) tied.within;
       }
 
-  sent_step : KeepsExchange validated log (sending log packet.space now size packet.number items end)
-      × IsTiedAt validated end (sending log packet.space now size packet.number items end ∷ log) after there
+  sent_step : KeepsExchange validated log (sending log packet.space now size packet.number items packet.eliciting
+      window end)
+      × IsTiedAt validated end (sending log packet.space now size packet.number items packet.eliciting window end ∷
+      log) after there
       (wire ++ packet ∷ [])
   sent_step = (
     record {
       honest = tt;
       delivered = tt;
       arrives = tt;
-      limited = threefold_at validated (sending log packet.space now size packet.number items end ∷ log) end after
+      limited = threefold_at validated (sending log packet.space now size packet.number items packet.eliciting window
+          end ∷ log) end after
           there (wire ++ packet ∷ []) tied_sent;
+      window = fits_by window is.fits;
+      flight = exceeds_by (sending log packet.space now size packet.number items packet.eliciting window end ∷ log)
+          tied_sent.within;
     },
     tied_sent,
   )
 
 module _ {F Q R C K S M P : Type 0} {f : _} {c : _} {q : _} {m : _} {r : _} where
-  sends_at : (end : End) (space : SpaceId) (now size : ℕ) (packet : WirePacket) (items : Vec ℕ) (wire : List WirePacket)
+  sends_at : (end : End) (space : SpaceId) (now size : ℕ) (packet : WirePacket) (items : Vec ℕ) (window : Option ℕ)
+      (wire : List WirePacket)
       (here there after : Sender F Q R C K S M P f c q m r) → packet.space ≡ space
-      → SendsPacket here after end space size packet items
-      → StepKeepsAt end here there wire (Send end space now size) (Ok (Sent packet.number items)) after
+      → SendsPacket here after end space size packet items window
+      → StepKeepsAt end here there wire (Send end space now size) (Ok (Sent packet.number items packet.eliciting
+      window)) after
       (wire ++ packet ∷ [])
-  sends_at end space now size packet items wire here there after same =
-      subst (λ (at : SpaceId). SendsPacket here after end at size packet items
-      → StepKeepsAt end here there wire (Send end at now size) (Ok (Sent packet.number items)) after
+  sends_at end space now size packet items window wire here there after same =
+      subst (λ (at : SpaceId). SendsPacket here after end at size packet items window
+      → StepKeepsAt end here there wire (Send end at now size) (Ok (Sent packet.number items packet.eliciting window))
+      after
       (wire ++ packet ∷ [])) same (λ is validated log tied.
-      sent_step end now size packet items wire here there after is validated log tied)
+      sent_step end now size packet items window wire here there after is validated log tied)
 
   pub send_turn : (end : End) (space : SpaceId) (now size : ℕ) (packet : WirePacket) (items : Vec ℕ)
+      (window : Option ℕ)
       (client server client_after server_after : Sender F Q R C K S M P f c q m r) (wire all : List WirePacket)
       → all ≡ wire ++ packet ∷ []
-      → TurnsAt end (λ (old new : Sender F Q R C K S M P f c q m r). SendsPacket old new end space size packet items)
+      → TurnsAt end (λ (old new : Sender F Q R C K S M P f c q m r). SendsPacket old new end space size packet items
+      window)
       client server client_after server_after
-      → ExchangeKept client server wire (Send end space now size) (Ok (Sent packet.number items)) client_after
+      → ExchangeKept client server wire (Send end space now size) (Ok (Sent packet.number items packet.eliciting
+      window)) client_after
       server_after
       all
-  send_turn end space now size packet items client server client_after server_after wire all pushed turns =
+  send_turn end space now size packet items window client server client_after server_after wire all pushed turns =
       subst (λ (all : List WirePacket). ExchangeKept client server wire (Send end space now size)
-      (Ok (Sent packet.number items)) client_after server_after all) (sym pushed)
-      (by_turn end (λ (old new : Sender F Q R C K S M P f c q m r). SendsPacket old new end space size packet items)
-      wire (wire ++ packet ∷ []) (Send end space now size) (Ok (Sent packet.number items))
-      (λ here there after is. sends_at end space now size packet items wire here there after is.there is)
+      (Ok (Sent packet.number items packet.eliciting window)) client_after server_after all) (sym pushed)
+      (by_turn end (λ (old new : Sender F Q R C K S M P f c q m r). SendsPacket old new end space size packet items
+      window)
+      wire (wire ++ packet ∷ []) (Send end space now size) (Ok (Sent packet.number items packet.eliciting window))
+      (λ here there after is. sends_at end space now size packet items window wire here there after is.there is)
       client server client_after server_after turns)
 
 -- ---- a packet is new
@@ -384,7 +443,7 @@ module _ {F Q R C K S M P : Type 0} {f : _} {c : _} {q : _} {m : _} {r : _} wher
 module _ {Q S M P : Type 0} (log : PairLog) (at now : ℕ) (from : End) (past peer after : History Q S M P)
     (packet : WirePacket) (items : Vec ℕ) (acked : AckOutcome) (wire : List WirePacket) (sender : packet.from ≡ from)
     (told : items.items ≡ packet.items.items)
-    (hears : HearsNumber packet.size packet.space packet.number (Ok true) peer after)
+    (ends : Numbers) (hears : HearsNumber packet.size packet.space packet.number (Ok true) ends peer after)
     (flows : Flows log from past peer) (wired : AllByRecursion (IsOnWire log) wire) (on : IsOnWire log packet) where
   abbrev new_log : PairLog
   new_log = taking log at now packet.space packet.number packet.size items acked (other_end from) ∷ log
@@ -394,11 +453,11 @@ module _ {Q S M P : Type 0} (log : PairLog) (at now : ℕ) (from : End) (past pe
       (on.sent ∙ ap (λ (all : List ℕ). all ∷ []) (sym told))
 
   flows_new : Flows new_log from past after
-  flows_new = flows_taken log at now packet.space packet.number packet.size items acked from past peer after hears
+  flows_new = flows_taken log at now packet.space packet.number packet.size items acked from past peer after ends hears
       was_sent flows
 
   once_new : deliveries_of (other_end from) packet.space packet.number log ≡ []
-  once_new = (before_it log at now packet.space packet.number packet.size items acked from past peer after hears
+  once_new = (before_it log at now packet.space packet.number packet.size items acked from past peer after ends hears
       was_sent flows).away.undelivered
 
   still_taken_by : (one : End) (space : SpaceId) (n : ℕ) (before : List ℕ) → (one ≡ from) ⊎ (one ≡ other_end from)
@@ -409,7 +468,7 @@ module _ {Q S M P : Type 0} (log : PairLog) (at now : ℕ) (from : End) (past pe
       ∙ subst (λ (e : End). deliveries_of e space n log ≡ before ∷ []) (same ∙ sym (twice from)) once)
   still_taken_by one space n before (inr same) once =
       subst (λ (e : End). deliveries_of e space n new_log ≡ before ∷ []) (sym same)
-      (takes_kept log at now packet.space packet.number packet.size items acked from past peer after hears was_sent
+      (takes_kept log at now packet.space packet.number packet.size items acked from past peer after ends hears was_sent
       flows
       space n before (subst (λ (e : End). deliveries_of e space n log ≡ before ∷ []) same once))
 
@@ -491,7 +550,7 @@ module _ {F Q R C K S M P : Type 0} {f : _} {c : _} {q : _} {m : _} {r : _} (at 
 
   module _ (fate : Fate) (is : HearsPacket here after packet fate) where
     own_went : (past : History Q S M P) × HearsNumber packet.size packet.space packet.number (reply_of fate)
-        tied.own.past past
+        (ends_by_fate packet.space fate) tied.own.past past
     own_went =
         let own = is.goes.from tied.own.config tied.own.start tied.own.random tied.own.past tied.own.came in
         (own.0, own.2)
@@ -515,7 +574,7 @@ module _ {F Q R C K S M P : Type 0} {f : _} {c : _} {q : _} {m : _} {r : _} (at 
 
     -- nothing new arrives
     pub old_step : IsSilent (Arrive at now, Ok (Arrived (other_end from) packet.space packet.number packet.size fate))
-        → (hearing packet.size packet.space packet.number (reply_of fate)).heard ≡ None
+        → (hearing packet.size packet.space packet.number (reply_of fate) (ends_by_fate packet.space fate)).heard ≡ None
         → Delivers packet.items.items fate
         → IsFirstDelivery (deliveries_of (other_end from) packet.space packet.number log) fate
         → KeepsExchange validated log
@@ -525,7 +584,7 @@ module _ {F Q R C K S M P : Type 0} {f : _} {c : _} {q : _} {m : _} {r : _} (at 
         wire
     old_step silent none delivers once = silent_step (other_end from) (Arrive at now)
         (Ok (Arrived (other_end from) packet.space packet.number packet.size fate))
-        (hearing packet.size packet.space packet.number (reply_of fate)) silent none
+        (hearing packet.size packet.space packet.number (reply_of fate) (ends_by_fate packet.space fate)) silent none
         (λ log. arriving_adds log at now packet.space packet.number packet.size (other_end from) fate)
         (λ log. arriving_adds_not log at now packet.space packet.number packet.size (other_end from) fate) wire here
         there after (record {
@@ -563,9 +622,10 @@ module _ {F Q R C K S M P : Type 0} {f : _} {c : _} {q : _} {m : _} {r : _} (at 
               own.2.goes.given refl (quiet_none tied.peer.past) tied.out;
           back = subst (λ (e : End). Flows (event ∷ log) e tied.peer.past own.0) (sym (twice from))
               (flows_new log at now from tied.peer.past tied.own.past own.0 packet items acked wire sender
-              is.takes.told own.2 toward tied.wired on_wire);
+              is.takes.told (ends_by_ack packet.space acked) own.2 toward tied.wired on_wire);
           logged = logged_on validated log event (other_end from) tied.own.config.validated
-              (hearing packet.size packet.space packet.number (Ok true)) tied.own.past own.0
+              (hearing packet.size packet.space packet.number (Ok true) (ends_by_ack packet.space acked)) tied.own.past
+              own.0
               (arriving_adds log at now packet.space packet.number packet.size (other_end from) (New items acked))
               own.2.goes tied.logged;
           peer_logged = logged_on validated log event (other_end (other_end from)) tied.peer.config.validated quiet
@@ -574,7 +634,8 @@ module _ {F Q R C K S M P : Type 0} {f : _} {c : _} {q : _} {m : _} {r : _} (at 
               (New items acked)) (quiet_none tied.peer.past) tied.peer_logged;
           listed = tied.listed;
           wired = wired_new log at now from tied.peer.past tied.own.past own.0 packet items acked wire sender
-              is.takes.told own.2 toward tied.wired on_wire;
+              is.takes.told (ends_by_ack packet.space acked) own.2 toward tied.wired on_wire;
+          within = within_on log event tt tied.within;
         }
 
     pub new_step : KeepsExchange validated log event
@@ -589,8 +650,11 @@ module _ {F Q R C K S M P : Type 0} {f : _} {c : _} {q : _} {m : _} {r : _} (at 
             delivered = acks_delivered log (other_end from) tied.own.past tied.peer.past tied.out packet.space ranges
                 acks_known (Arrive at now) packet.number packet.size items acked is.takes.within;
             arrives = arrival (New items acked) is is.takes.told (once_new log at now from tied.peer.past tied.own.past
-                own.0 packet items acked wire sender is.takes.told own.2 toward tied.wired on_wire);
+                own.0 packet items acked wire sender is.takes.told (ends_by_ack packet.space acked) own.2 toward
+                tied.wired on_wire);
             limited = threefold_at validated (event ∷ log) (other_end from) after there wire tied_new;
+            window = tt;
+            flight = exceeds_by (event ∷ log) tied_new.within;
           },
           tied_new,
         )
@@ -633,16 +697,16 @@ module _ {F Q R C K S M P : Type 0} {f : _} {c : _} {q : _} {m : _} {r : _} (at 
 
 pub local_answer : (end : End) (step : LocalStep) (result : Result PairAnswer SenderError)
     → IfOk result (IsLocalAnswer step) → IsNoPacket (Local end step, result)
-local_answer end (Expire now) (Ok (Sent number items)) never = absurd never
+local_answer end (Expire now) (Ok (Sent number items eliciting window)) never = absurd never
 local_answer end (Expire now) (Ok (Arrived to space number size fate)) never = absurd never
-local_answer end (Late now) (Ok (Sent number items)) never = absurd never
+local_answer end (Late now) (Ok (Sent number items eliciting window)) never = absurd never
 local_answer end (Late now) (Ok (Arrived to space number size fate)) never = absurd never
-local_answer end step (Ok (Sent number items)) never = absurd never
+local_answer end step (Ok (Sent number items eliciting window)) never = absurd never
 local_answer end step (Ok (Arrived to space number size fate)) never = absurd never
 local_answer end step result answer = tt
 
 none_silent : (event : PairEvent) → IsNoPacket event → IsSilent event
-none_silent (step, Ok (Sent number items)) none = absurd none
+none_silent (step, Ok (Sent number items eliciting window)) none = absurd none
 none_silent (step, Ok (Arrived to space number size fate)) none = absurd none
 none_silent other none = tt
 

@@ -18,6 +18,7 @@ use Rattle.recovery_pair.specs.declared.steps.Fate.TheVariants.{New}
 use Rattle.recovery_pair.specs.declared.steps.PairAnswer.TheVariants.{Arrived, Sent}
 use Rattle.recovery_pair.specs.declared.steps.PairStep.TheVariants.{Arrive, Send}
 use Rattle.recovery_pair.specs.Logs.{PairEvent, PairLog, deliveries_of, other_end, sends_of}
+use Rattle.recovery_pair.specs.Flights.{Numbers}
 use Rattle.recovery_pair.specs.Pasts.{Came, GoesOn, HearsNumber, SendsNumber, EndTurn, WasSentUnder, hearing}
 use Rattle.recovery_pair.specs.Promises.DeliveredOnce.{IsDeliveredOnce}
 use Rattle.recovery_pair.specs.Tied.{Flows, HasArrived, IsNotThere, IsUnsent, Travels}
@@ -131,9 +132,9 @@ left_out true items more is = absurd (true≢false is)
 
 -- ---- a packet is sent
 
-module _ (log : PairLog) (there : SpaceId) (now size m : ℕ) (items : Vec ℕ) where
+module _ (log : PairLog) (there : SpaceId) (now size m : ℕ) (items : Vec ℕ) (eliciting : Bool) (window : Option ℕ) where
   abbrev pub sending : End → PairEvent
-  sending end = (Send end there now size, Ok (Sent m items))
+  sending end = (Send end there now size, Ok (Sent m items eliciting window))
 
   own_sends : (end : End) (space : SpaceId) (n : ℕ) → sends_of end space n (sending end ∷ log)
       ≡ (if is_it there m space n then items.items ∷ sends_of end space n log else sends_of end space n log)
@@ -150,7 +151,7 @@ module _ (log : PairLog) (there : SpaceId) (now size m : ℕ) (items : Vec ℕ) 
   sending_delivers end at space n = refl
 
   module _ {Q S M P : Type 0} (end : End) (past past_after peer : History Q S M P)
-      (sends : SendsNumber size there m past past_after) (flows : Flows log end past peer) where
+      (counted : ℕ) (sends : SendsNumber size counted there m past past_after) (flows : Flows log end past peer) where
     -- nothing was sent under the number before
     unsent_by : Travels log end there m past peer → IsUnsent log end there m past peer
     unsent_by (inl unsent) = unsent
@@ -227,7 +228,8 @@ module _ (log : PairLog) (at now : ℕ) (there : SpaceId) (m size : ℕ) (items 
 
   -- `from` sent it, and the other end hears it
   module _ {Q S M P : Type 0} (from : End) (past peer peer_after : History Q S M P)
-      (hears : HearsNumber size there m (Ok true) peer peer_after) (sent : sends_of from there m log ≡ items.items ∷ [])
+      (ends : Numbers) (hears : HearsNumber size there m (Ok true) ends peer peer_after) (sent : sends_of from there m
+      log ≡ items.items ∷ [])
       (flows : Flows log from past peer) where
     abbrev heard_now : PairLog
     heard_now = taking (other_end from) ∷ log
@@ -283,7 +285,7 @@ module _ (log : PairLog) (at now : ℕ) (there : SpaceId) (m size : ℕ) (items 
         (own_takes (other_end from) space n
         ∙ left_out (is_it there m space n) items.items (deliveries_of (other_end from) space n log) is)
         (λ given. given)
-        (came_on (hearing size there m (Ok true)) peer peer_after hears.goes space n) (λ was. heard_by space n is
+        (came_on (hearing size there m (Ok true) ends) peer peer_after hears.goes space n) (λ was. heard_by space n is
         (hears.goes.heard space n was))
         (flows.each space n)
 

@@ -1,10 +1,15 @@
 -- What an end does with its sender at each step, from its calls.
-use Rattle.std.proofs.Common.{◌≡◌, ℕ, Bool, true, List, Result, Ok, subst}
+use Rattle.std.proofs.Common.{◌≡◌, ℕ, ◌+◌, ◌≤◌, ◌&&◌, Bool, true, false, List, Option, None, Some, Result, Ok, refl, sym, subst}
+use Rattle.std.specs.Prelude.{not, if◌then◌else◌}
 use Rattle.std.specs.Global.{Vec}
 use Rattle.recovery_base.specs.declared.below.SpaceId.{SpaceId}
 use Rattle.recovery_losses.specs.Frames.{IsInAckRanges}
+use Rattle.recovery_losses.specs.Variables.{is_probe_due}
 use Rattle.recovery_history.specs.History.{begins, queue_model}
+use Rattle.recovery_sender.specs.Calls.{bytes_in_flight, window_of}
 use Rattle.recovery_sender.specs.Senders.{state_in}
+use Rattle.recovery_sender.specs.declared.sender.packets.Transmission.{Transmission}
+use Rattle.recovery_sender.specs.declared.sender.packets.Transmission.TheVariants.{Transmitted}
 use Rattle.recovery_sender.specs.declared.sender.Sender.{Sender}
 use Rattle.recovery_sender.specs.declared.sender.SenderError.{SenderError}
 use Rattle.recovery_pair.specs.declared.endpoint.Outgoing.{Outgoing}
@@ -14,52 +19,84 @@ use Rattle.recovery_pair.specs.declared.steps.End.{End}
 use Rattle.recovery_pair.specs.declared.steps.Fate.TheVariants.{New}
 use Rattle.recovery_pair.specs.declared.steps.WirePacket.{WirePacket}
 use Rattle.recovery_pair.specs.Frames.{IsFrameFor}
-use Rattle.recovery_pair.specs.Pasts.{AcksWithin, Continues, GoesOn, GoesOnQuietly, HearsNumber, NoAccusation, SendsNumber, arriving, leaving, quiet}
-use Rattle.recovery_pair.specs.Turns.{HearsPacket, PacksPacket, PackTurn, SendsPacket, SendTurn}
+use Rattle.recovery_pair.specs.Flights.{Numbers, counted_if, ends_by_ack, no_numbers}
+use Rattle.recovery_pair.specs.Pasts.{AcksWithin, Continues, GoesOn, GoesOnQuietly, HearsNumber, NoAccusation, SendsNumber, arriving, ending, leaving, quiet}
+use Rattle.recovery_pair.specs.Permits.{FitsChecked}
+use Rattle.recovery_pair.specs.Turns.{FitsIfPermitted, HearsPacket, PacksPacket, PackTurn, SendsPacket, SendTurn}
 use Rattle.recovery_pair.proofs.FrameLaws.{pending_received}
-use Rattle.recovery_pair.proofs.GoingLaws.{arrives_then_hears, hears_then_quiet, leaves_then_sends, left_quietly, quiet_then, quiet_then_sends, sends_then_quiet}
-use Rattle.recovery_pair.proofs.QuietLaws.{joined, quietly_then}
+use Rattle.recovery_pair.proofs.GoingLaws.{arrives_then_hears, hears_then_ends, hears_then_quiet, leaves_then_sends, left_quietly, quiet_then, quiet_then_sends, sends_then_quiet}
+use Rattle.recovery_pair.proofs.QuietLaws.{joined}
 
 module _ {F Q R C K S M P : Type 0} {f : _} {c : _} {q : _} {m : _} {r : _} where
-  pub quietly_sends : (space : SpaceId) (n : ℕ) (old between new : Sender F Q R C K S M P f c q m r)
-      → Continues GoesOnQuietly old between → Continues (SendsNumber 0 space n) between new
-      → Continues (SendsNumber 0 space n) old new
-  quietly_sends space n =
-      joined GoesOnQuietly (SendsNumber 0 space n) (SendsNumber 0 space n) (quiet_then_sends 0 space n)
+  pub quietly_sends : (counted : ℕ) (space : SpaceId) (n : ℕ) (old between new : Sender F Q R C K S M P f c q m r)
+      → Continues GoesOnQuietly old between → Continues (SendsNumber 0 counted space n) between new
+      → Continues (SendsNumber 0 counted space n) old new
+  quietly_sends counted space n = joined GoesOnQuietly (SendsNumber 0 counted space n) (SendsNumber 0 counted space n)
+      (quiet_then_sends 0 counted space n)
 
-  pub sends_quietly : (space : SpaceId) (n : ℕ) (old between new : Sender F Q R C K S M P f c q m r)
-      → Continues (SendsNumber 0 space n) old between → Continues GoesOnQuietly between new
-      → Continues (SendsNumber 0 space n) old new
-  sends_quietly space n =
-      joined (SendsNumber 0 space n) GoesOnQuietly (SendsNumber 0 space n) (sends_then_quiet 0 space n)
+  pub sends_quietly : (counted : ℕ) (space : SpaceId) (n : ℕ) (old between new : Sender F Q R C K S M P f c q m r)
+      → Continues (SendsNumber 0 counted space n) old between → Continues GoesOnQuietly between new
+      → Continues (SendsNumber 0 counted space n) old new
+  sends_quietly counted space n = joined (SendsNumber 0 counted space n) GoesOnQuietly (SendsNumber 0 counted space n)
+      (sends_then_quiet 0 counted space n)
+
+  -- ---- a window that is checked
+
+  -- it has room for what is permitted
+  pub fits_checked : (sender : Sender F Q R C K S M P f c q m r) (space : SpaceId) (size : ℕ) (eliciting : Bool)
+      (result : Result Transmission SenderError)
+      → (result ≡ Ok Transmitted → eliciting ≡ true → is_probe_due sender.variables space ≡ false
+      → bytes_in_flight (state_in sender) + size ≤ window_of c.words (state_in sender))
+      → FitsIfPermitted sender space size eliciting result
+  fits_checked sender space size eliciting (Ok Transmitted) fits =
+      by eliciting (is_probe_due sender.variables space) (fits refl)
+    where
+      by : (elicits due : Bool) → (elicits ≡ true → due ≡ false
+          → bytes_in_flight (state_in sender) + size ≤ window_of c.words (state_in sender))
+          → FitsChecked sender size (if elicits && not due then Some (window_of c.words (state_in sender)) else None)
+      by true false room = room refl refl
+      by true true room = tt
+      by false due room = tt
+  fits_checked sender space size eliciting result fits = tt
+
+  window_same : (sender : Sender F Q R C K S M P f c q m r) (size : ℕ) (window checked : Option ℕ)
+      → window ≡ checked → FitsChecked sender size checked → FitsChecked sender size window
+  window_same sender size window checked same fits =
+      subst (λ (one : Option ℕ). FitsChecked sender size one) (sym same) fits
 
   -- ---- a datagram that is permitted
 
-  packet_goes : (from : End) (space : SpaceId) (size : ℕ) (ranges : List (ℕ × ℕ))
-      (old between new : Sender F Q R C K S M P f c q m r) (packet : WirePacket) (items : Vec ℕ)
-      → IsFrameFor space old ranges → Continues (GoesOn (leaving size)) old between
-      → PacksPacket between new from space size ranges packet items → SendsPacket old new from space size packet items
-  packet_goes from space size ranges old between new packet items frame first packs = record {
-    sender = packs.sender;
-    there = packs.there;
-    sized = packs.sized;
-    told = packs.told;
-    sound = rw packs.acks frame.sound;
-    goes = record {
-      from = λ config start random past came. (
-          let one = first.from config start random past came in
-          let two = packs.goes.from config start random one.0 one.1 in (
-            two.0,
-            two.1,
-            record {
-              sends = leaves_then_sends size space packet.number past one.0 two.0 one.2 two.2;
-              acks = λ k is. pending_received (begins f.built c.words (queue_model q.contents q.words q.blank) config
-                  start
-                  random) past (state_in old) came space k (frame.each k (subst (IsInAckRanges k) packs.acks is));
-            },
-          ));
-    };
-  }
+  packet_goes : (from : End) (space : SpaceId) (size : ℕ) (eliciting : Bool) (checked : Option ℕ)
+      (ranges : List (ℕ × ℕ)) (old between new : Sender F Q R C K S M P f c q m r) (packet : WirePacket)
+      (items : Vec ℕ) (window : Option ℕ) → IsFrameFor space old ranges → FitsChecked old size checked
+      → Continues (GoesOn (leaving size)) old between
+      → PacksPacket between new from space size eliciting checked ranges packet items window
+      → SendsPacket old new from space size packet items window
+  packet_goes from space size eliciting checked ranges old between new packet items window frame fits first packs =
+      record {
+        sender = packs.sender;
+        there = packs.there;
+        sized = packs.sized;
+        told = packs.told;
+        sound = rw packs.acks frame.sound;
+        fits = window_same old size window checked packs.window_is fits;
+        goes = record {
+          from = λ config start random past came. (
+              let one = first.from config start random past came in
+              let two = packs.goes.from config start random one.0 one.1 in (
+                two.0,
+                two.1,
+                record {
+                  sends = rw packs.elicits (leaves_then_sends size (counted_if eliciting size) space packet.number past
+                      one.0 two.0 one.2 two.2);
+                  acks = λ k is. pending_received (begins f.built c.words (queue_model q.contents q.words q.blank)
+                      config
+                      start
+                      random) past (state_in old) came space k (frame.each k (subst (IsInAckRanges k) packs.acks is));
+                },
+              ));
+        };
+      }
 
   -- a packet that does not go out may be left out of what was transmitted
   held_back : (size : ℕ) (old between new : Sender F Q R C K S M P f c q m r)
@@ -69,43 +106,50 @@ module _ {F Q R C K S M P : Type 0} {f : _} {c : _} {q : _} {m : _} {r : _} wher
       (λ past between after first second. quiet_then quiet past between after
       (left_quietly size past between first) second)
 
-  pub packed_turn : (from : End) (space : SpaceId) (size : ℕ) (ranges : List (ℕ × ℕ))
-      (old between new : Sender F Q R C K S M P f c q m r) (outcome : Outgoing) → IsFrameFor space old ranges
-      → Continues (GoesOn (leaving size)) old between → PackTurn between new from space size ranges outcome
+  pub packed_turn : (from : End) (space : SpaceId) (size : ℕ) (eliciting : Bool) (checked : Option ℕ)
+      (ranges : List (ℕ × ℕ)) (old between new : Sender F Q R C K S M P f c q m r) (outcome : Outgoing)
+      → IsFrameFor space old ranges → FitsChecked old size checked → Continues (GoesOn (leaving size)) old between
+      → PackTurn between new from space size eliciting checked ranges outcome
       → SendTurn old new from space size (Ok outcome)
-  packed_turn from space size ranges old between new (Sent packet items) frame first turn =
-      packet_goes from space size ranges old between new packet items frame first turn
-  packed_turn from space size ranges old between new Nothing frame first turn =
+  packed_turn from space size eliciting checked ranges old between new (Sent packet items window) frame fits first
+      turn =
+      packet_goes from space size eliciting checked ranges old between new packet items window frame fits first turn
+  packed_turn from space size eliciting checked ranges old between new Nothing frame fits first turn =
       held_back size old between new first turn
-  packed_turn from space size ranges old between new (Held held) frame first turn =
+  packed_turn from space size eliciting checked ranges old between new (Held held) frame fits first turn =
       held_back size old between new first turn
-  packed_turn from space size ranges old between new (Failed refusal) frame first turn =
+  packed_turn from space size eliciting checked ranges old between new (Failed refusal) frame fits first turn =
       held_back size old between new first turn
 
   -- ---- a packet that arrives
 
   pub came_turn : (size : ℕ) (space : SpaceId) (n : ℕ) (reply : Result Bool SenderError)
       (old counted heard : Sender F Q R C K S M P f c q m r) → Continues (GoesOn (arriving size)) old counted
-      → Continues (HearsNumber 0 space n reply) counted heard → Continues (HearsNumber size space n reply) old heard
+      → Continues (HearsNumber 0 space n reply no_numbers) counted heard
+      → Continues (HearsNumber size space n reply no_numbers) old heard
   came_turn size space n reply =
-      joined (GoesOn (arriving size)) (HearsNumber 0 space n reply) (HearsNumber size space n reply)
-      (arrives_then_hears size space n reply)
+      joined (GoesOn (arriving size)) (HearsNumber 0 space n reply no_numbers)
+      (HearsNumber size space n reply no_numbers) (arrives_then_hears size space n reply no_numbers)
 
   -- it is new
   pub heard_turn : (packet : WirePacket) (items : Vec ℕ) (acked : AckOutcome)
       (old counted heard taken new : Sender F Q R C K S M P f c q m r) → items.items ≡ packet.items.items
       → Continues (GoesOn (arriving packet.size)) old counted
-      → Continues (HearsNumber 0 packet.space packet.number (Ok true)) counted heard
-      → Continues GoesOnQuietly heard taken → NoAccusation packet.space packet.ranges.items heard acked
+      → Continues (HearsNumber 0 packet.space packet.number (Ok true) no_numbers) counted heard
+      → Continues (GoesOn (ending (ends_by_ack packet.space acked))) heard taken → NoAccusation packet.space
+      packet.ranges.items heard acked
       → AcksWithin packet.ranges.items acked → Continues GoesOnQuietly taken new
       → HearsPacket old new packet (New items acked)
   heard_turn packet items acked old counted heard taken new told counts hears takes honest within plans =
       let came = came_turn packet.size packet.space packet.number (Ok true) old counted heard counts hears in
+      let ends : Numbers = ends_by_ack packet.space acked in
       record {
-        goes = joined (HearsNumber packet.size packet.space packet.number (Ok true)) GoesOnQuietly
-            (HearsNumber packet.size packet.space packet.number (Ok true))
-            (hears_then_quiet packet.size packet.space packet.number (Ok true)) old heard new came
-            (quietly_then heard taken new takes plans);
+        goes = joined (HearsNumber packet.size packet.space packet.number (Ok true) ends) GoesOnQuietly
+            (HearsNumber packet.size packet.space packet.number (Ok true) ends)
+            (hears_then_quiet packet.size packet.space packet.number (Ok true) ends) old taken new
+            (joined (HearsNumber packet.size packet.space packet.number (Ok true) no_numbers) (GoesOn (ending ends))
+            (HearsNumber packet.size packet.space packet.number (Ok true) ends)
+            (hears_then_ends packet.size packet.space packet.number (Ok true) ends) old heard taken came takes) plans;
         takes = record {
           told = told;
           honest = λ sound config start random past at were. (

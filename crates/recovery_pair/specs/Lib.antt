@@ -1,3 +1,4 @@
+pub mod Flights
 pub mod Frames
 pub mod Logs
 pub mod Pasts

@@ -13,9 +13,11 @@ use Rattle.recovery_losses.specs.Losses.{IsOneOf}
 use Rattle.recovery_history.specs.declared.config.RecoveryConfig.{RecoveryConfig}
 use Rattle.recovery_history.specs.History.{History, begins, queue_model}
 use Rattle.recovery_history.specs.Promises.Acknowledged.{WasReceived}
+use Rattle.recovery_history.specs.Promises.Counted.{sum_on}
 use Rattle.recovery_history.specs.Promises.Datagrams.{bytes_in, bytes_out, datagrams_on, is_validated}
 use Rattle.recovery_history.specs.Promises.Fates.{is_given, times}
 use Rattle.recovery_history.specs.Promises.NewNumbers.{came_in, is_discarded, is_new}
+use Rattle.recovery_history.specs.Promises.Paths.{generations}
 use Rattle.recovery_history.specs.Reachability.{ReachedBy}
 use Rattle.recovery_paths.specs.declared.path_pair.PathName.TheVariants.{Current}
 use Rattle.recovery_sender.specs.Promises.Pasts.{ForEveryPast}
@@ -25,6 +27,7 @@ use Rattle.recovery_sender.specs.declared.sender.SenderError.{SenderError}
 use Rattle.recovery_sender.specs.declared.sender.SenderError.TheVariants.{Event}
 use Rattle.recovery_pair.specs.declared.steps.AckOutcome.{AckOutcome}
 use Rattle.recovery_pair.specs.declared.steps.AckOutcome.TheVariants.{Taken}
+use Rattle.recovery_pair.specs.Flights.{Numbers, counted_if, no_numbers}
 use Rattle.recovery_pair.specs.Frames.{IsSoundFrame}
 use Rattle.recovery_pair.specs.Promises.NeverAccused.{IsSpared}
 
@@ -42,9 +45,25 @@ pub record EndTurn : Type 0 where
   pub discards : Option SpaceId
   -- the address of the peer is validated
   pub validates : Bool
+  -- a packet is sent: its space, its number, and how many bytes of it count in flight
+  pub counts : Option (SpaceId × ℕ × ℕ)
+  -- no other packets than these are acknowledged, lost, or discarded with their space
+  pub ends : Numbers
+
+abbrev pub ending : Numbers → EndTurn
+ending ends = record {
+  came = None;
+  heard = None;
+  arrives = 0;
+  leaves = 0;
+  discards = None;
+  validates = false;
+  counts = None;
+  ends = ends;
+}
 
 abbrev pub quiet : EndTurn
-quiet = record { came = None; heard = None; arrives = 0; leaves = 0; discards = None; validates = false }
+quiet = ending no_numbers
 
 abbrev pub arriving : ℕ → EndTurn
 arriving size = record quiet { arrives = size }
@@ -53,7 +72,11 @@ abbrev pub leaving : ℕ → EndTurn
 leaving size = record quiet { leaves = size }
 
 abbrev pub discarding : SpaceId → EndTurn
-discarding space = record quiet { discards = Some space }
+discarding space = record quiet { discards = Some space; ends = λ there n. same_space space there }
+
+-- a packet is sent in a datagram of this size
+abbrev pub packet_leaving : ℕ → ℕ → SpaceId → ℕ → EndTurn
+packet_leaving size counted space n = record quiet { leaves = size; counts = Some (space, n, counted) }
 
 abbrev pub validating : EndTurn
 validating = record quiet { validates = true }
@@ -67,13 +90,18 @@ abbrev pub new_by : SpaceId × ℕ → Result Bool SenderError → Option (Space
 new_by number (Ok true) = Some number
 new_by number reply = None
 
-abbrev pub hearing : ℕ → SpaceId → ℕ → Result Bool SenderError → EndTurn
-hearing size space n reply =
-    record quiet { came = came_by (space, n) reply; heard = new_by (space, n) reply; arrives = size }
+abbrev pub hearing : ℕ → SpaceId → ℕ → Result Bool SenderError → Numbers → EndTurn
+hearing size space n reply ends =
+    record quiet { came = came_by (space, n) reply; heard = new_by (space, n) reply; arrives = size; ends = ends }
 
 abbrev pub with_number : SpaceId → Option (SpaceId × ℕ) → List ℕ → List ℕ
 with_number space None before = before
 with_number space (Some number) before = if same_space number.0 space then number.1 ∷ before else before
+
+-- what a sent packet adds in flight, unless its number is gone
+abbrev pub added : Option (SpaceId × ℕ × ℕ) → Numbers → ℕ
+added None gone = 0
+added (Some sent) gone = if gone sent.0 sent.1 then 0 else sent.2
 
 abbrev pub is_of : SpaceId → Option SpaceId → Bool
 is_of space None = false
@@ -106,6 +134,10 @@ module _ {Q S M P : Type 0} where
   abbrev pub bytes_transmitted : History Q S M P → ℕ
   bytes_transmitted past = sum_by bytes_out (datagrams_on Current past)
 
+  -- the bytes of the ack-eliciting packets in flight on the path in use, except for those numbers that are gone
+  abbrev pub flight_in : Numbers → History Q S M P → ℕ
+  flight_in gone past = sum_on (λ size eliciting. counted_if eliciting size) (generations past).current gone past
+
   -- only this is added
   pub record GoesOn (turn : EndTurn) (past after : History Q S M P) : Type 0 where
     pub given : (space : SpaceId) (n : ℕ) → WasSentUnder space n past → WasSentUnder space n after
@@ -118,27 +150,29 @@ module _ {Q S M P : Type 0} where
         ≡ (is_of space turn.discards || is_discarded space past)
     pub validated : (first : Bool) → is_validated first Current after
         ≡ (turn.validates || is_validated first Current past)
+    pub flight : (gone : Numbers) → added turn.counts gone
+        + flight_in (λ space n. turn.ends space n || gone space n) past ≤ flight_in gone after
 
   abbrev pub GoesOnQuietly : History Q S M P → History Q S M P → Type 0
   GoesOnQuietly = GoesOn quiet
 
-  -- a packet is sent under a number that was not used before, in a datagram of this size
-  pub record SendsNumber (size : ℕ) (space : SpaceId) (n : ℕ) (past after : History Q S M P) : Type 0 where
-    pub goes : GoesOn (leaving size) past after
+  -- a packet is sent under a number that was not used before, in a datagram of this size; so many bytes count
+  pub record SendsNumber (size counted : ℕ) (space : SpaceId) (n : ℕ) (past after : History Q S M P) : Type 0 where
+    pub goes : GoesOn (packet_leaving size counted space n) past after
     pub unused : WasSentUnder space n past → ⊥
     pub used : WasSentUnder space n after
     pub small : n < number_limit
 
   -- and with an ACK of numbers that were received
-  pub record SendsWithAck (size : ℕ) (space : SpaceId) (n : ℕ) (ranges : List (ℕ × ℕ)) (past after : History Q S M P)
-      : Type 0 where
-    pub sends : SendsNumber size space n past after
+  pub record SendsWithAck (size counted : ℕ) (space : SpaceId) (n : ℕ) (ranges : List (ℕ × ℕ))
+      (past after : History Q S M P) : Type 0 where
+    pub sends : SendsNumber size counted space n past after
     pub acks : (k : ℕ) → IsInAckRanges k ranges → WasReceived space k past
 
   -- a packet comes: it is new, a duplicate, or dropped, by what came before
-  pub record HearsNumber (size : ℕ) (space : SpaceId) (n : ℕ) (reply : Result Bool SenderError)
+  pub record HearsNumber (size : ℕ) (space : SpaceId) (n : ℕ) (reply : Result Bool SenderError) (ends : Numbers)
       (past after : History Q S M P) : Type 0 where
-    pub goes : GoesOn (hearing size space n reply) past after
+    pub goes : GoesOn (hearing size space n reply ends) past after
     pub by : IsHeardBy (is_discarded space past) (nat_le number_limit n) (is_new (came_in space past) n) reply
 
 -- ---- the same of a sender

@@ -1,7 +1,7 @@
 -- A datagram is sent or held back as the sender says of it (`transmit`; RFC 9000, 8.1; RFC 9002, 7).
-use Rattle.std.specs.Prelude.{◌≡◌, ℕ, Bool, Result, Ok}
+use Rattle.std.specs.Prelude.{◌≡◌, ℕ, ◌+◌, ◌≤◌, Bool, Option, None, Some, Result, Ok, if◌then◌else◌}
 use Rattle.recovery_base.specs.declared.below.SpaceId.{SpaceId}
-use Rattle.recovery_sender.specs.Calls.{transmit_reply}
+use Rattle.recovery_sender.specs.Calls.{bytes_in_flight, is_checked, transmit_reply, window_of}
 use Rattle.recovery_sender.specs.Senders.{state_in}
 use Rattle.recovery_sender.specs.declared.sender.Sender.{Sender}
 use Rattle.recovery_sender.specs.declared.sender.SenderError.{SenderError}
@@ -16,19 +16,23 @@ use Rattle.recovery_pair.specs.declared.steps.PairAnswer.TheVariants.{Failed, He
 use Rattle.recovery_pair.specs.declared.steps.PairStep.{PairStep}
 use Rattle.recovery_pair.specs.declared.steps.PairStep.TheVariants.{Send}
 
--- what is sent was permitted; what is held back was not, for the reason that is reported
-abbrev pub AgreesWith : Result Transmission SenderError → Result PairAnswer SenderError → Type 0
-AgreesWith said (Ok (Sent number items)) = said ≡ Ok Transmitted
-AgreesWith said (Ok (Failed refusal)) = said ≡ Ok Transmitted
-AgreesWith said (Ok (Held held)) = (said ≡ Ok held) × (held ≡ Transmitted → ⊥)
-AgreesWith said answer = Unit {0}
+module _ (in_flight : Bool) (checked : Option ℕ) (said : Result Transmission SenderError) where
+  -- what is sent was permitted, as what counts in flight or not, and with the window that was checked; what is held
+  -- back was not permitted, for the reason that is reported
+  abbrev pub AgreesWith : Result PairAnswer SenderError → Type 0
+  AgreesWith (Ok (Sent number items eliciting window)) =
+      (said ≡ Ok Transmitted) × (eliciting ≡ in_flight) × (window ≡ checked)
+  AgreesWith (Ok (Failed refusal)) = said ≡ Ok Transmitted
+  AgreesWith (Ok (Held held)) = (said ≡ Ok held) × (held ≡ Transmitted → ⊥)
+  AgreesWith answer = Unit {0}
 
--- the answer that an outcome gives, as far as it matters here
-abbrev pub AgreesAlready : Result Transmission SenderError → Result Outgoing SenderError → Type 0
-AgreesAlready said (Ok (outgoing.Sent packet items)) = said ≡ Ok Transmitted
-AgreesAlready said (Ok (outgoing.Failed refusal)) = said ≡ Ok Transmitted
-AgreesAlready said (Ok (outgoing.Held held)) = (said ≡ Ok held) × (held ≡ Transmitted → ⊥)
-AgreesAlready said outcome = Unit {0}
+  -- the answer that an outcome gives, as far as it matters here
+  abbrev pub AgreesAlready : Result Outgoing SenderError → Type 0
+  AgreesAlready (Ok (outgoing.Sent packet items window)) =
+      (said ≡ Ok Transmitted) × (packet.eliciting ≡ in_flight) × (window ≡ checked)
+  AgreesAlready (Ok (outgoing.Failed refusal)) = said ≡ Ok Transmitted
+  AgreesAlready (Ok (outgoing.Held held)) = (said ≡ Ok held) × (held ≡ Transmitted → ⊥)
+  AgreesAlready outcome = Unit {0}
 
 module _ {F Q R C K S M P : Type 0} {f : _} {c : _} {q : _} {m : _} {r : _} where
   -- what a sender says of a datagram that counts in flight, or not
@@ -36,13 +40,24 @@ module _ {F Q R C K S M P : Type 0} {f : _} {c : _} {q : _} {m : _} {r : _} wher
   said_by sender space now size in_flight =
       transmit_reply c.words (state_in sender) sender.variables now size space in_flight
 
+  -- the window that is checked for it, if it counts in flight and no probe is due (RFC 9002, 7 and 7.5)
+  abbrev pub window_checked : Sender F Q R C K S M P f c q m r → SpaceId → Bool → Option ℕ
+  window_checked sender space in_flight =
+      if is_checked sender.variables space in_flight then Some (window_of c.words (state_in sender)) else None
+
+  -- it fits into a window that is checked, with what is in flight
+  abbrev pub FitsChecked : Sender F Q R C K S M P f c q m r → ℕ → Option ℕ → Type 0
+  FitsChecked sender size None = Unit {0}
+  FitsChecked sender size (Some window) = bytes_in_flight (state_in sender) + size ≤ window
+
   abbrev pub PermitsOutcome : SpaceId → ℕ → ℕ → Result Outgoing SenderError → Sender F Q R C K S M P f c q m r → Type 0
-  PermitsOutcome space now size outcome sender =
-      (in_flight : Bool) × AgreesAlready (said_by sender space now size in_flight) outcome
+  PermitsOutcome space now size outcome sender = (in_flight : Bool)
+      × AgreesAlready in_flight (window_checked sender space in_flight) (said_by sender space now size in_flight)
+      outcome
 
   abbrev pub PermitsAnswer : SpaceId → ℕ → ℕ → Result PairAnswer SenderError → Sender F Q R C K S M P f c q m r → Type 0
-  PermitsAnswer space now size answer sender =
-      (in_flight : Bool) × AgreesWith (said_by sender space now size in_flight) answer
+  PermitsAnswer space now size answer sender = (in_flight : Bool)
+      × AgreesWith in_flight (window_checked sender space in_flight) (said_by sender space now size in_flight) answer
 
   -- of this endpoint
   abbrev pub HoldsAt : End → (Sender F Q R C K S M P f c q m r → Type 0) → Sender F Q R C K S M P f c q m r

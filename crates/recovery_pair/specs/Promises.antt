@@ -5,16 +5,20 @@ use Rattle.std.specs.Prelude.{◌∷◌, Bool}
 use Rattle.recovery_pair.specs.Logs.{PairEvent, PairLog}
 use Rattle.recovery_pair.specs.Promises.Arrivals.{ArrivesAsSent}
 use Rattle.recovery_pair.specs.Promises.DeliveredOnce.{AcksDelivered}
+use Rattle.recovery_pair.specs.Promises.Excess.{ExceedsByProbes}
 use Rattle.recovery_pair.specs.Promises.Locals.{AnswersLocally}
 use Rattle.recovery_pair.specs.Promises.NeverAccused.{NeverAccuses}
 use Rattle.recovery_pair.specs.Promises.Sends.{SendsWhatWaits}
 use Rattle.recovery_pair.specs.Promises.Threefold.{ServerSendsThreefold}
+use Rattle.recovery_pair.specs.Promises.Window.{SendsWithinWindow}
 pub mod Arrivals
 pub mod DeliveredOnce
+pub mod Excess
 pub mod Locals
 pub mod NeverAccused
 pub mod Sends
 pub mod Threefold
+pub mod Window
 
 pub record KeepsPromises (validated : Bool) (log : PairLog) (event : PairEvent) : Type 0 where
   -- An endpoint never accuses the other (RFC 9000, 13.1 and 21.4): it rejects no ACK frame for its contents.
@@ -27,6 +31,11 @@ pub record KeepsPromises (validated : Bool) (log : PairLog) (event : PairEvent) 
   -- Until it validates the client's address, the server sends at most three times the bytes that arrive (RFC 9000,
   -- 8.1).
   pub limited : ServerSendsThreefold validated (event ∷ log)
+  -- What counts in flight is sent only if it fits into the window with all that is in flight, unless a probe is due
+  -- (RFC 9002, 7 and 7.5).
+  pub window : SendsWithinWindow log event
+  -- What is in flight exceeds the largest window so far by the probes in flight at most (RFC 9002, 7 and 7.5).
+  pub flight : ExceedsByProbes (event ∷ log)
   -- An endpoint has nothing to send in a space only once it has sent no fewer packets there than were passed to it
   -- (RFC 9000, 13).
   pub sends : SendsWhatWaits log event

@@ -1,5 +1,5 @@
 -- The log of two ends is tied to what their senders know: what came is on the wire, and what is on the wire went out.
-use Rattle.std.specs.Prelude.{◌≡◌, ℕ, ◌<◌, ◌≤◌, ◌⊎◌, Bool, true, List, [], ◌∷◌, map}
+use Rattle.std.specs.Prelude.{◌≡◌, ℕ, ◌<◌, ◌≤◌, ◌⊎◌, Bool, true, List, [], ◌∷◌, map, is_some}
 use Rattle.std.specs.List.{AllByRecursion}
 use Rattle.rand_core.specs.Stream.{Stream}
 use Rattle.recovery_base.specs.declared.below.SpaceId.{SpaceId}
@@ -18,10 +18,11 @@ use Rattle.recovery_pair.specs.declared.endpoint.Waiting.{Waiting}
 use Rattle.recovery_pair.specs.declared.steps.End.{End}
 use Rattle.recovery_pair.specs.declared.steps.End.TheVariants.{Client, Server}
 use Rattle.recovery_pair.specs.declared.steps.WirePacket.{WirePacket}
+use Rattle.recovery_pair.specs.Flights.{Numbers, flight_of, largest_window, no_numbers}
 use Rattle.recovery_pair.specs.Frames.{IsSoundFrame}
 use Rattle.recovery_pair.specs.Logs.{PairLog, LoggedPacket, bytes_arrived, bytes_sent, deliveries_of, has_validated, numbers_at, other_end, sends_of, was_discarded, wire_of}
 use Rattle.recovery_pair.specs.Waits.{AreQueued}
-use Rattle.recovery_pair.specs.Pasts.{Came, WasSentUnder, bytes_received, bytes_transmitted}
+use Rattle.recovery_pair.specs.Pasts.{Came, WasSentUnder, bytes_received, bytes_transmitted, flight_in}
 
 -- ---- one number, from one end to the other
 
@@ -82,7 +83,7 @@ validated_first Client validated = true
 validated_first Server validated = validated
 
 -- The log and the history of an endpoint agree on what it received, discarded and validated. The history counts no more
--- bytes as received than arrived, and no fewer as transmitted than were sent.
+-- bytes as received than arrived, no fewer as transmitted than were sent, and no fewer in flight.
 pub record IsLogged {Q S M P : Type 0} (validated : Bool) (log : PairLog) (end : End) (first : Bool)
     (past : History Q S M P) : Type 0 where
   pub came : (space : SpaceId) → came_in space past ≡ numbers_at end space log
@@ -90,6 +91,7 @@ pub record IsLogged {Q S M P : Type 0} (validated : Bool) (log : PairLog) (end :
   pub address : is_validated first Current past ≡ has_validated end (validated_first end validated) log
   pub arrived : bytes_received past ≤ bytes_arrived end log
   pub left : bytes_sent end log ≤ bytes_transmitted past
+  pub flight : (gone : Numbers) → flight_of end (λ window. true) gone log ≤ flight_in gone past
 
 module _ {F Q R C K S M P : Type 0} {f : _} {c : _} {q : _} {m : _} {r : _} where
   pub record HasPast (sender : Sender F Q R C K S M P f c q m r) : Type 0 where
@@ -112,6 +114,7 @@ module _ {F Q R C K S M P : Type 0} {f : _} {c : _} {q : _} {m : _} {r : _} wher
     pub peer_logged : IsLogged validated log (other_end end) peer.config.validated peer.past
     pub listed : wire_of log ≡ map sent_as wire
     pub wired : AllByRecursion (IsOnWire log) wire
+    pub within : (one : End) → flight_of one is_some no_numbers log ≤ largest_window one log
 
   -- and what waits at each
   pub record IsTied (validated : Bool) (log : PairLog) (client server : Sender F Q R C K S M P f c q m r)

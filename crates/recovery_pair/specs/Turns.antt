@@ -1,9 +1,10 @@
 -- What an end does with its sender at each step.
-use Rattle.std.specs.Prelude.{◌≡◌, ℕ, Bool, true, false, List, Result, Ok, Err}
+use Rattle.std.specs.Prelude.{◌≡◌, ℕ, Bool, true, false, List, Option, Result, Ok, Err}
 use Rattle.std.specs.Global.{Vec}
 use Rattle.recovery_base.specs.declared.below.SpaceId.{SpaceId}
 use Rattle.recovery_sender.specs.declared.sender.Sender.{Sender}
 use Rattle.recovery_sender.specs.declared.sender.SenderError.{SenderError}
+use Rattle.recovery_sender.specs.declared.sender.probes.Timeout.{Timeout}
 use Rattle.recovery_sender.specs.declared.sender.packets.Transmission.{Transmission}
 use Rattle.recovery_sender.specs.declared.sender.packets.Transmission.TheVariants.{Transmitted}
 use Rattle.recovery_pair.specs.declared.endpoint.Outgoing.{Outgoing}
@@ -18,8 +19,10 @@ use Rattle.recovery_pair.specs.declared.steps.LocalStep.TheVariants as local
 use Rattle.recovery_pair.specs.declared.steps.PairAnswer.{PairAnswer}
 use Rattle.recovery_pair.specs.declared.steps.PairAnswer.TheVariants as answer
 use Rattle.recovery_pair.specs.declared.steps.WirePacket.{WirePacket}
+use Rattle.recovery_pair.specs.Flights.{counted_if, ends_by_fate, ends_by_timer}
 use Rattle.recovery_pair.specs.Frames.{IsSoundFrame}
-use Rattle.recovery_pair.specs.Pasts.{AcksWithin, Continues, GoesOn, GoesOnQuietly, HearsNumber, NoAccusation, SendsNumber, SendsWithAck, EndTurn, discarding, leaving, quiet, validating}
+use Rattle.recovery_pair.specs.Permits.{FitsChecked, window_checked}
+use Rattle.recovery_pair.specs.Pasts.{AcksWithin, Continues, GoesOn, GoesOnQuietly, HearsNumber, NoAccusation, SendsNumber, SendsWithAck, EndTurn, discarding, ending, leaving, quiet, validating}
 
 -- a call that may fail
 abbrev pub TriesTurn : {F Q R C K S M P : Type 0} {f : _} {c : _} {q : _} {m : _} {r : _} → EndTurn
@@ -41,7 +44,20 @@ if_done turn other = quiet
 abbrev pub local_turn : LocalStep → Result PairAnswer SenderError → EndTurn
 local_turn (local.Discard space now) answer = if_done (discarding space) answer
 local_turn local.AddressValidated answer = if_done validating answer
+local_turn (local.Expire now) answer = ending (ends_by_timer answer)
 local_turn step answer = quiet
+
+-- what is declared lost when the loss detection timer expires
+abbrev pub timeout_turn : Result Timeout SenderError → EndTurn
+timeout_turn (Ok timeout) = ending (ends_by_timer (Ok (answer.Expired timeout)))
+timeout_turn (Err refusal) = ending (ends_by_timer (Err refusal))
+
+-- a datagram that is permitted fits into the window that is checked
+abbrev pub FitsIfPermitted : {F Q R C K S M P : Type 0} {f : _} {c : _} {q : _} {m : _} {r : _}
+    → Sender F Q R C K S M P f c q m r → SpaceId → ℕ → Bool → Result Transmission SenderError → Type 0
+FitsIfPermitted sender space size eliciting (Ok Transmitted) =
+    FitsChecked sender size (window_checked sender space eliciting)
+FitsIfPermitted sender space size eliciting result = Unit {0}
 
 module _ {F Q R C K S M P : Type 0} {f : _} {c : _} {q : _} {m : _} {r : _} (old new : Sender F Q R C K S M P f c q m r)
   where
@@ -50,32 +66,39 @@ module _ {F Q R C K S M P : Type 0} {f : _} {c : _} {q : _} {m : _} {r : _} (old
     TransmitTurn size (Ok Transmitted) = Continues (GoesOn (leaving size)) old new
     TransmitTurn size other = Continues GoesOnQuietly old new
 
-    -- a packet goes out, with the items that are told, and an ACK of numbers that were received
-    pub record SendsPacket (from : End) (space : SpaceId) (size : ℕ) (packet : WirePacket) (items : Vec ℕ) : Type 0
-      where
-        pub sender : packet.from ≡ from
-        pub there : packet.space ≡ space
-        pub sized : packet.size ≡ size
-        pub told : items.items ≡ packet.items.items
-        pub sound : IsSoundFrame packet.ranges.items
-        pub goes : Continues (SendsWithAck size space packet.number packet.ranges.items) old new
+    -- a packet goes out, with the items that are told, and an ACK of numbers that were received; with what is in
+    -- flight it fits into the window that is checked
+    pub record SendsPacket (from : End) (space : SpaceId) (size : ℕ) (packet : WirePacket) (items : Vec ℕ)
+        (window : Option ℕ) : Type 0 where
+      pub sender : packet.from ≡ from
+      pub there : packet.space ≡ space
+      pub sized : packet.size ≡ size
+      pub told : items.items ≡ packet.items.items
+      pub sound : IsSoundFrame packet.ranges.items
+      pub fits : FitsChecked old size window
+      pub goes : Continues (SendsWithAck size (counted_if packet.eliciting size) space packet.number
+          packet.ranges.items) old new
 
     -- a packet is packed with these ranges
-    pub record PacksPacket (from : End) (space : SpaceId) (size : ℕ) (ranges : List (ℕ × ℕ)) (packet : WirePacket)
-        (items : Vec ℕ) : Type 0 where
+    pub record PacksPacket (from : End) (space : SpaceId) (size : ℕ) (eliciting : Bool) (checked : Option ℕ)
+        (ranges : List (ℕ × ℕ)) (packet : WirePacket) (items : Vec ℕ) (window : Option ℕ) : Type 0 where
       pub sender : packet.from ≡ from
       pub there : packet.space ≡ space
       pub sized : packet.size ≡ size
       pub told : items.items ≡ packet.items.items
       pub acks : packet.ranges.items ≡ ranges
-      pub goes : Continues (SendsNumber 0 space packet.number) old new
+      pub elicits : packet.eliciting ≡ eliciting
+      pub window_is : window ≡ checked
+      pub goes : Continues (SendsNumber 0 (counted_if eliciting size) space packet.number) old new
 
-    abbrev pub PackTurn : End → SpaceId → ℕ → List (ℕ × ℕ) → Outgoing → Type 0
-    PackTurn from space size ranges (outgoing.Sent packet items) = PacksPacket from space size ranges packet items
-    PackTurn from space size ranges other = Continues GoesOnQuietly old new
+    abbrev pub PackTurn : End → SpaceId → ℕ → Bool → Option ℕ → List (ℕ × ℕ) → Outgoing → Type 0
+    PackTurn from space size eliciting checked ranges (outgoing.Sent packet items window) =
+        PacksPacket from space size eliciting checked ranges packet items window
+    PackTurn from space size eliciting checked ranges other = Continues GoesOnQuietly old new
 
     abbrev pub SendTurn : End → SpaceId → ℕ → Result Outgoing SenderError → Type 0
-    SendTurn from space size (Ok (outgoing.Sent packet items)) = SendsPacket from space size packet items
+    SendTurn from space size (Ok (outgoing.Sent packet items window)) =
+        SendsPacket from space size packet items window
     SendTurn from space size other = Continues GoesOnQuietly old new
 
     -- a packet is new: its items are delivered, and its ACK frame is not refused for what it says
@@ -90,7 +113,8 @@ module _ {F Q R C K S M P : Type 0} {f : _} {c : _} {q : _} {m : _} {r : _} (old
 
     -- a packet arrives
     pub record HearsPacket (packet : WirePacket) (fate : Fate) : Type 0 where
-      pub goes : Continues (HearsNumber packet.size packet.space packet.number (reply_of fate)) old new
+      pub goes : Continues (HearsNumber packet.size packet.space packet.number (reply_of fate)
+          (ends_by_fate packet.space fate)) old new
       pub takes : IfNew packet fate
 
     abbrev pub HearTurn : WirePacket → Result Fate SenderError → Type 0

@@ -40,12 +40,12 @@ module _ (old new : List Waiting) where
 
   -- a packet that goes out may be one that waited; there is nothing to send only if none waits
   abbrev pub SendWaits : SpaceId → Result Outgoing SenderError → Type 0
-  SendWaits space (Ok (Sent packet items)) = LosesOne space
+  SendWaits space (Ok (Sent packet items window)) = LosesOne space
   SendWaits space (Ok Nothing) = LosesNone × (waiting_in space old ≡ 0)
   SendWaits space other = LosesNone
 
   abbrev pub PackWaits : SpaceId → Outgoing → Type 0
-  PackWaits space (Sent packet items) = LosesOne space
+  PackWaits space (Sent packet items window) = LosesOne space
   PackWaits space Nothing = ⊥
   PackWaits space (Held held) = ⊥
   PackWaits space other = LosesNone

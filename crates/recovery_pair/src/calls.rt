@@ -1,16 +1,17 @@
 //! The calls of a sender that an end makes, and how each continues the sender's past.
 ghost use Rattle.std.specs.Prelude.{◌≡◌, ◌≢◌, [], ◌∷◌, true, IfOk, MatchResult, Some};
+ghost use Rattle.recovery_pair.specs.Flights.{counted_if, ends_by_ack, no_numbers};
 ghost use Rattle.recovery_pair.specs.Frames.{IsFrameFor};
-ghost use Rattle.recovery_pair.specs.Pasts.{Continues, GoesOn, GoesOnQuietly, HearsNumber, NoAccusation, SendsNumber, AcksWithin, arm_told, arriving, discarding, heard_of, validating};
-ghost use Rattle.recovery_pair.specs.Permits.{said_by};
+ghost use Rattle.recovery_pair.specs.Pasts.{Continues, GoesOn, GoesOnQuietly, HearsNumber, NoAccusation, SendsNumber, AcksWithin, arm_told, arriving, discarding, ending, heard_of, validating};
+ghost use Rattle.recovery_pair.specs.Permits.{FitsChecked, said_by, window_checked};
 ghost use Rattle.recovery_pair.specs.Timed.{KeepsTimer};
-ghost use Rattle.recovery_pair.specs.Turns.{TransmitTurn, TriesTurn};
+ghost use Rattle.recovery_pair.specs.Turns.{FitsIfPermitted, TransmitTurn, TriesTurn, timeout_turn};
 
 use crate::steps::{AckOutcome, WirePacket};
 use rand_core::Rng;
 use recovery_base::below::SpaceId;
 use recovery_base::time::{Duration, Instant};
-use recovery_congestion::congestion::ControllerFactory;
+use recovery_congestion::congestion::{Controller, ControllerFactory};
 use recovery_events::event::{Answer, Event, Refusal};
 use recovery_losses::Ack;
 use recovery_queue::items::ItemQueue;
@@ -77,6 +78,24 @@ where
     })
 }
 
+/// Returns the window for which a datagram is checked, if it counts in flight and no probe is due in its space.
+pub(crate) fn window_checked<F, R>(
+    sender: &Sender<F, ItemQueue, R>,
+    space: SpaceId,
+    eliciting: bool,
+) -> Option<u64>
+where
+    F: ControllerFactory,
+    R: Rng + Drop,
+    ensures { result ≡ window_checked sender.now space eliciting }
+{
+    if eliciting && !sender.variables().is_probe_due(space) {
+        Some(sender.recovery().current().congestion.window())
+    } else {
+        None
+    }
+}
+
 /// Asks whether a datagram may be sent.
 pub(crate) fn transmit<F, R>(
     sender: &mut Sender<F, ItemQueue, R>,
@@ -90,6 +109,7 @@ where
     R: Rng + Drop,
     ensures goes { TransmitTurn sender.old sender.new size result }
     ensures said { result ≡ said_by sender.old space now size eliciting }
+    ensures fits { FitsIfPermitted sender.old space size eliciting result }
     ensures timer { KeepsTimer sender.old sender.new }
 {
     sender.transmit(now, size, space, eliciting)
@@ -116,6 +136,13 @@ where
     }
 }
 
+/// Returns how many bytes of a packet count in flight (RFC 9002, 2).
+fn counted_if(eliciting: bool, size: u16) -> u16
+    ensures { result ≡ counted_if eliciting size }
+{
+    if eliciting { size } else { 0 }
+}
+
 /// Records a sent packet. Returns its number.
 pub(crate) fn track<F, R>(
     sender: &mut Sender<F, ItemQueue, R>,
@@ -130,11 +157,12 @@ where
     F: ControllerFactory,
     R: Rng + Drop,
     ensures goes { MatchResult result
-        (λ number. Continues (SendsNumber 0 space number) sender.old sender.new)
+        (λ number. Continues (SendsNumber 0 (counted_if eliciting size) space number) sender.old
+        sender.new)
         (λ refused. Continues GoesOnQuietly sender.old sender.new) }
     ensures timer { KeepsTimer sender.old sender.new }
 {
-    let counted = if eliciting { size } else { 0 };
+    let counted = counted_if(eliciting, size);
     match sender.send(space, now, counted, eliciting, largest, queue, ()) {
         Ok(Answer::Sent { number, .. }) => return Ok(number),
         Ok(_) => unreachable!(),
@@ -199,7 +227,8 @@ pub(crate) fn hear<F, R>(
 where
     F: ControllerFactory,
     R: Rng + Drop,
-    ensures goes { Continues (HearsNumber 0 space number (heard_of result)) sender.old sender.new }
+    ensures goes { Continues (HearsNumber 0 space number (heard_of result) no_numbers) sender.old
+        sender.new }
     ensures timer { KeepsTimer sender.old sender.new }
 {
     let received = Event::Received {
@@ -223,7 +252,8 @@ pub(crate) fn hear_ack<F, R>(
 where
     F: ControllerFactory,
     R: Rng + Drop,
-    ensures goes { Continues GoesOnQuietly sender.old sender.new }
+    ensures goes { Continues (GoesOn (ending (ends_by_ack packet.now.space result))) sender.old
+        sender.new }
     ensures honest { NoAccusation packet.now.space packet.now.ranges.items sender.old result }
     ensures within { AcksWithin packet.now.ranges.items result }
     ensures timer { KeepsTimer sender.old sender.new }
@@ -250,7 +280,7 @@ pub(crate) fn expire<F, R>(
 where
     F: ControllerFactory,
     R: Rng + Drop,
-    ensures goes { Continues GoesOnQuietly sender.old sender.new }
+    ensures goes { Continues (GoesOn (timeout_turn result)) sender.old sender.new }
     ensures timer { KeepsTimer sender.old sender.new }
 {
     sender.on_timeout(now)

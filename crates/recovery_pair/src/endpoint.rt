@@ -10,7 +10,7 @@ ghost use Rattle.recovery_pair.specs.Waits.{GainsOne, HandWaits, IsPlaceInQueue,
 
 use crate::calls::{
     AckToSend, NO_MEMORY, confirm, contents, copied, datagram, discard, end_acks, end_delay,
-    expire, frame, get_keys, hear, hear_ack, track, transmit, validate,
+    expire, frame, get_keys, hear, hear_ack, track, transmit, validate, window_checked,
 };
 use crate::steps::{End, Fate, LocalStep, PairAnswer, WirePacket};
 use rand_core::Rng;
@@ -49,8 +49,8 @@ pub enum Outgoing {
     Held(Transmission),
     /// Its packet cannot be tracked.
     Failed(SenderError),
-    /// The packet is sent, with a copy of its items.
-    Sent(WirePacket, Vec<u64>),
+    /// The packet is sent, with a copy of its items, and with the window for which it was checked, if any.
+    Sent(WirePacket, Vec<u64>, Option<u64>),
 }
 
 /// Returns the place of the items that wait longest to be sent in a space, if any.
@@ -113,6 +113,7 @@ where
     }
 
     /// Sends one datagram, if there is something to send and it may be sent. An `Err` changes nothing.
+    #[tactic(auto, using(crate::proofs::QuietLaws::same_quietly))]
     pub(crate) fn send(
         &mut self,
         alloc: Global,
@@ -138,12 +139,13 @@ where
             Ok(()) => {}
             Err(_) => return Err(NO_MEMORY),
         }
+        let window = window_checked(&self.sender, space, eliciting);
         match transmit(&mut self.sender, space, now, size, eliciting) {
             Ok(Transmission::Transmitted) => {}
             Ok(held) => return Ok(Outgoing::Held(held)),
             Err(refused) => return Err(refused),
         }
-        Ok(self.pack(alloc, from, space, now, size, eliciting, ack))
+        Ok(self.pack(alloc, from, space, now, size, eliciting, window, ack))
     }
 
     /// Packs and records the packet of a datagram that is permitted.
@@ -155,11 +157,12 @@ where
         now: Instant,
         size: u16,
         eliciting: bool,
+        window: Option<u64>,
         ack: AckToSend,
     ) -> Outgoing
         requires room { vec_len self.old.waiting < vec_capacity self.old.waiting }
-        ensures goes { PackTurn self.old.sender self.new.sender from space size ack.ranges.items
-            result }
+        ensures goes { PackTurn self.old.sender self.new.sender from space size eliciting window
+            ack.ranges.items result }
         ensures waits { PackWaits self.old.waiting.items self.new.waiting.items space result }
         ensures timer { KeepsTimer self.old.sender self.new.sender }
     {
@@ -204,7 +207,7 @@ where
                     ranges: ack.ranges,
                     delay: ack.delay,
                 };
-                Outgoing::Sent(packet, told)
+                Outgoing::Sent(packet, told, window)
             }
             Err(refused) => {
                 self.keep(space, ItemQueue::from_items(items));
@@ -235,6 +238,7 @@ where
     }
 
     /// Takes a packet that arrives. An `Err` changes nothing.
+    #[tactic(auto, using(crate::proofs::QuietLaws::same_quietly))]
     pub(crate) fn hear(
         &mut self,
         alloc: Global,
@@ -300,6 +304,7 @@ where
     }
 
     /// Makes a step of this endpoint.
+    #[tactic(auto, using(crate::proofs::QuietLaws::same_quietly))]
     pub(crate) fn local(&mut self, step: LocalStep) -> Result<PairAnswer, SenderError>
         ensures goes { Continues (GoesOn (local_turn step result)) self.old.sender
             self.new.sender }
@@ -334,6 +339,7 @@ where
     }
 
     /// Requires an ACK at once if the ACK delay timer is due.
+    #[tactic(auto, using(crate::proofs::QuietLaws::same_quietly))]
     fn end_delay(&mut self, now: Instant) -> PairAnswer
         ensures goes { Continues GoesOnQuietly self.old.sender self.new.sender }
         ensures timer { KeepsTimer self.old.sender self.new.sender }

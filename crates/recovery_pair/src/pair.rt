@@ -216,10 +216,16 @@ where
             now,
             size,
         ) {
-            Ok(Outgoing::Sent(packet, items)) => {
+            Ok(Outgoing::Sent(packet, items, window)) => {
                 let number = packet.number;
+                let eliciting = packet.eliciting;
                 self.wire.push_reserved(packet);
-                Ok(PairAnswer::Sent { number, items })
+                Ok(PairAnswer::Sent {
+                    number,
+                    items,
+                    eliciting,
+                    window,
+                })
             }
             Ok(Outgoing::Nothing) => Ok(PairAnswer::Nothing),
             Ok(Outgoing::Held(held)) => Ok(PairAnswer::Held(held)),

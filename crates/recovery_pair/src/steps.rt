@@ -158,6 +158,11 @@ pub enum PairAnswer {
         number: u64,
         /// The items that it carries.
         items: Vec<u64>,
+        /// Whether it is ack-eliciting, so that it counts in flight (RFC 9002, 2).
+        eliciting: bool,
+        /// The congestion window in bytes for which it was checked. `None` if none was: it does not count in flight, or
+        /// a probe was due in its space (RFC 9002, 7 and 7.5).
+        window: Option<u64>,
     },
     /// A packet arrived.
     Arrived {

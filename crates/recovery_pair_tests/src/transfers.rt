@@ -45,7 +45,7 @@ fn seen_of(answer: &Result<PairAnswer, SenderError>) -> Seen {
     match answer {
         Ok(PairAnswer::Done) => Seen::Done,
         Ok(PairAnswer::Nothing) => Seen::Nothing,
-        Ok(PairAnswer::Sent { number, items }) => Seen::Sent(*number, items.first().copied()),
+        Ok(PairAnswer::Sent { number, items, .. }) => Seen::Sent(*number, items.first().copied()),
         Ok(PairAnswer::Arrived { fate, .. }) => seen_of_fate(fate),
         Ok(PairAnswer::Expired(Timeout::Lost { losses, .. })) => {
             Seen::Lost(losses.numbers.first().copied())

@@ -14,6 +14,11 @@ returns-in-Ok-Queue-clause-goes g c = pending_quietly c.args.space c.args.sender
     c.on_event.result
     c.on_event.ensures
 
+pub returns-in-Err-clause-goes : goal.returns-in-Err-clause-goes
+returns-in-Err-clause-goes g c = pending_quietly c.args.space c.args.sender.now c.on_event.new.self
+    c.on_event.result
+    c.on_event.ensures
+
 pub returns-then-is_probe_due-clause-timer : goal.returns-then-is_probe_due-clause-timer
 returns-then-is_probe_due-clause-timer g c = probe_timer c.args.sender.now c.probe.new.self c.args.space false tt
     c.probe.result c.probe.ensures

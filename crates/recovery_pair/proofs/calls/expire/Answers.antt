@@ -1,9 +1,9 @@
-use Rattle.recovery_pair.proofs.QuietLaws.{timeout_quietly}
+use Rattle.recovery_pair.proofs.QuietLaws.{timeout_ending}
 use Rattle.recovery_pair.proofs.TimedLaws.{timeout_timer}
 use Rattle.recovery_pair.proofs.calls.expire.Goals as goal
 
 pub returns-clause-goes : goal.returns-clause-goes
-returns-clause-goes g c = timeout_quietly c.args.now c.args.sender.now c.on_timeout.new.self c.on_timeout.result
+returns-clause-goes g c = timeout_ending c.args.now c.args.sender.now c.on_timeout.new.self c.on_timeout.result
     c.on_timeout.ensures.comes
 
 pub returns-clause-timer : goal.returns-clause-timer

@@ -1,13 +1,21 @@
-use Rattle.std.proofs.Common.{ℕ, List, None, false, Err, Ok, subst}
+use Rattle.std.proofs.Common.{ℕ, List, None, false, Err, Ok, refl, subst}
 use Rattle.recovery_sender.specs.Acking.{AckResult}
 use Rattle.recovery_pair.proofs.HonestLaws.{refused_spared, some_items, taken_within}
-use Rattle.recovery_pair.proofs.QuietLaws.{ack_quietly}
+use Rattle.recovery_pair.proofs.QuietLaws.{ack_ending, same_quietly, within_any}
 use Rattle.recovery_pair.proofs.TimedLaws.{ack_timer, same_timer}
 use Rattle.recovery_pair.proofs.calls.hear_ack.Goals as goal
 
 pub returns-in-Ok-clause-goes : goal.returns-in-Ok-clause-goes
-returns-in-Ok-clause-goes g c = ack_quietly c.args.packet.now.space c.args.now _ _ c.args.sender.now c.on_ack.new.self
-    (Ok c.in-Ok.acknowledged) c.in-Ok.ensures
+returns-in-Ok-clause-goes g c = ack_ending c.args.packet.now.space c.args.now _ _ c.args.sender.now c.on_ack.new.self
+    c.in-Ok.acknowledged c.in-Ok.ensures
+
+pub returns-then-is_empty-clause-goes : goal.returns-then-is_empty-clause-goes
+returns-then-is_empty-clause-goes g c = within_any _ c.args.sender.now c.args.sender.now
+    (same_quietly c.args.sender.now c.args.sender.now refl)
+
+pub returns-in-Err-clause-goes : goal.returns-in-Err-clause-goes
+returns-in-Err-clause-goes g c = within_any _ c.args.sender.now c.on_ack.new.self
+    (same_quietly c.args.sender.now c.on_ack.new.self c.in-Err.ensures.0)
 
 pub returns-in-Ok-clause-within : goal.returns-in-Ok-clause-within
 returns-in-Ok-clause-within g c = rw (← c.deref.ensures.value)

@@ -1,13 +1,24 @@
-use Rattle.recovery_pair.proofs.PacketLaws.{sends_by_call}
-use Rattle.std.proofs.Common.{refl}
+use Rattle.std.proofs.Common.{ℕ, refl, subst, ap, ◌∙◌}
+use Rattle.recovery_pair.specs.Flights.{counted_if}
+use Rattle.recovery_pair.specs.Pasts.{Continues, SendsNumber}
+use Rattle.recovery_pair.proofs.PacketLaws.{counted_once, sends_by_call}
+use Rattle.recovery_pair.proofs.QuietLaws.{unsent_quietly}
 use Rattle.recovery_events.specs.declared.event.Event.TheVariants.{Send}
 use Rattle.recovery_pair.proofs.TimedLaws.{event_timer}
 use Rattle.recovery_pair.proofs.calls.track.Goals as goal
 
 pub returns-in-Ok-Sent-clause-goes : goal.returns-in-Ok-Sent-clause-goes
-returns-in-Ok-Sent-clause-goes g c = sends_by_call c.args.space c.args.now _ c.args.eliciting c.args.largest
-    c.args.queue _ _ _ _
-    c.args.sender.now c.send.new.self (rw c.in-Ok-Sent.field-0-is at c.in-Ok-Sent.ensures)
+returns-in-Ok-Sent-clause-goes g c =
+    subst (λ (counted : ℕ). Continues (SendsNumber 0 counted c.args.space c.in-Ok-Sent.number) c.args.sender.now
+    c.send.new.self)
+    (ap (counted_if c.args.eliciting) c.counted_if-counted.ensures ∙ counted_once c.args.eliciting c.args.size)
+    (sends_by_call c.args.space c.args.now c.counted_if-counted.result c.args.eliciting c.args.largest c.args.queue _ _
+    _
+    _ c.args.sender.now c.send.new.self (rw c.in-Ok-Sent.field-0-is at c.in-Ok-Sent.ensures))
+
+pub returns-in-Err-clause-goes : goal.returns-in-Err-clause-goes
+returns-in-Err-clause-goes g c = unsent_quietly c.args.space c.args.now _ c.args.eliciting c.args.largest c.args.queue _
+    c.args.sender.now c.send.new.self c.in-Err.refused c.in-Err.ensures
 
 pub returns-in-Ok-Sent-clause-timer : goal.returns-in-Ok-Sent-clause-timer
 returns-in-Ok-Sent-clause-timer g c = event_timer c.args.sender.now c.send.new.self

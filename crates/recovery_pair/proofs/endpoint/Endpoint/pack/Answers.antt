@@ -1,4 +1,5 @@
 use Rattle.std.proofs.Common.{refl}
+use Rattle.recovery_pair.specs.Flights.{counted_if}
 use Rattle.recovery_pair.proofs.QuietLaws.{quietly_then}
 use Rattle.recovery_pair.proofs.TurnLaws.{quietly_sends, sends_quietly}
 use Rattle.recovery_pair.proofs.endpoint.Endpoint.pack.Goals as goal
@@ -13,8 +14,12 @@ returns-in-Ok-track-clause-goes g c =
       sized = refl;
       told = cc (first, second);
       acks = refl;
-      goes = quietly_sends c.args.space c.in-Ok-track.number c.args.self.now.sender c.contents.new.sender
-          c.end_acks.new.self.sender c.contents.ensures.goes (sends_quietly c.args.space c.in-Ok-track.number
+      elicits = refl;
+      window_is = refl;
+      goes = quietly_sends (counted_if c.args.eliciting c.args.size) c.args.space c.in-Ok-track.number
+          c.args.self.now.sender c.contents.new.sender
+          c.end_acks.new.self.sender c.contents.ensures.goes (sends_quietly (counted_if c.args.eliciting c.args.size)
+          c.args.space c.in-Ok-track.number
           c.contents.new.sender c.track.new.sender c.end_acks.new.self.sender c.in-Ok-track.ensures.goes
           c.end_acks.ensures.goes);
     }

@@ -1,0 +1,13 @@
+-- The window (RFC 9002, 7): what counts in flight is sent only if it fits into the window with all that is in flight.
+-- That
+-- is so unless a probe is due: then no window is reported (7.5).
+use Rattle.std.specs.Prelude.{◌+◌, ◌≤◌, Ok, Some}
+use Rattle.recovery_pair.specs.declared.steps.PairAnswer.TheVariants.{Sent}
+use Rattle.recovery_pair.specs.declared.steps.PairStep.TheVariants.{Send}
+use Rattle.recovery_pair.specs.Flights.{flight}
+use Rattle.recovery_pair.specs.Logs.{PairEvent, PairLog}
+
+abbrev pub SendsWithinWindow : PairLog → PairEvent → Type 0
+SendsWithinWindow log (Send end space now size, Ok (Sent number items eliciting (Some window))) =
+    flight end log + size ≤ window
+SendsWithinWindow log event = Unit {0}
