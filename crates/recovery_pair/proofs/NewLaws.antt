@@ -108,6 +108,6 @@ module _ {F Q R C K S M P : Type 0} {f : _} {c : _} {q : _} {m : _} {r : _} wher
               wired = tt;
               within = λ one. omega arith;
             };
-        own_waits = λ space. omega arith;
-        peer_waits = λ space. omega arith;
+        own_waits = λ measure space. omega arith;
+        peer_waits = λ measure space. omega arith;
       }

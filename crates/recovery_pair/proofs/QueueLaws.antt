@@ -4,7 +4,6 @@ use Rattle.std.specs.Prelude.{IfOk}
 use Rattle.std.specs.Global.{Vec}
 use Rattle.recovery_base.specs.declared.below.SpaceId.{SpaceId}
 use Rattle.recovery_base.specs.Spaces.{same_space}
-use Rattle.recovery_history.specs.Promises.Fates.{more_if}
 use Rattle.recovery_sender.specs.declared.sender.Sender.{Sender}
 use Rattle.recovery_sender.specs.declared.sender.SenderError.{SenderError}
 use Rattle.recovery_pair.specs.declared.endpoint.Waiting.{Waiting}
@@ -17,7 +16,7 @@ use Rattle.recovery_pair.specs.declared.steps.PairAnswer.TheVariants.{Done, Noth
 use Rattle.recovery_pair.specs.declared.steps.PairStep.{PairStep}
 use Rattle.recovery_pair.specs.declared.steps.PairStep.TheVariants.{Local, Send}
 use Rattle.recovery_pair.specs.declared.steps.WirePacket.{WirePacket}
-use Rattle.recovery_pair.specs.Logs.{PairEvent, PairLog, handed, other_end, sent_in}
+use Rattle.recovery_pair.specs.Logs.{PairEvent, PairLog, handed, other_end, part, sent_in}
 use Rattle.recovery_pair.specs.Promises.Locals.{AnswersLocally, IsLocalAnswer}
 use Rattle.recovery_pair.specs.Promises.Sends.{SendsWhatWaits}
 use Rattle.recovery_pair.specs.Runs.{StepKeeps}
@@ -29,27 +28,30 @@ use Rattle.recovery_pair.proofs.WaitLaws.{none_lost}
 
 -- ---- what one end has, step by step
 
+nothing_more : (a : ℕ) → 0 + a ≡ a
+nothing_more a = omega arith
+
 -- a step after which what was handed over and sent is the same
 pub record LeavesQueue (event : PairEvent) (log : PairLog) (end : End) : Type 0 where
-  pub handed_same : (space : SpaceId) → handed end space (event ∷ log) ≡ handed end space log
-  pub sent_same : (space : SpaceId) → sent_in end space (event ∷ log) ≡ sent_in end space log
+  pub handed_same : (measure : List ℕ → ℕ) (space : SpaceId)
+      → handed end measure space (event ∷ log) ≡ handed end measure space log
+  pub sent_same : (measure : List ℕ → ℕ) (space : SpaceId)
+      → sent_in end measure space (event ∷ log) ≡ sent_in end measure space log
 
 pub queued_on : (event : PairEvent) (log : PairLog) (end : End) (old new : List Waiting) → LeavesQueue event log end
     → LosesNone old new → AreQueued log end old → AreQueued (event ∷ log) end new
-queued_on event log end old new leaves keeps queued space =
-    let one = queued space in
-    let two = keeps space in
-    let handed_is = leaves.handed_same space in
-    let sent_is = leaves.sent_same space in
+queued_on event log end old new leaves keeps queued measure space =
+    let one = queued measure space in
+    let two = keeps measure space in
+    let handed_is = leaves.handed_same measure space in
+    let sent_is = leaves.sent_same measure space in
     omega (arith, one, two, handed_is, sent_is)
 
-more_both : (happens : Bool) (h w s v : ℕ) → h ≤ w + s → w ≤ more_if happens v → h ≤ v + more_if happens s
-more_both true h w s v one two = omega (arith, one, two)
-more_both false h w s v one two = omega (arith, one, two)
+more_both : (more h w s v : ℕ) → h ≤ w + s → w ≤ more + v → h ≤ v + (more + s)
+more_both more h w s v one two = omega (arith, one, two)
 
-more_handed : (happens : Bool) (h w s v : ℕ) → h ≤ w + s → more_if happens w ≤ v → more_if happens h ≤ v + s
-more_handed true h w s v one two = omega (arith, one, two)
-more_handed false h w s v one two = omega (arith, one, two)
+more_handed : (more h w s v : ℕ) → h ≤ w + s → more + w ≤ v → more + h ≤ v + s
+more_handed more h w s v one two = omega (arith, one, two)
 
 -- ---- one end makes a step, the other does nothing
 
@@ -114,54 +116,65 @@ step_keeps client server client_after server_after wire wire_after client_waits 
 -- ---- a packet is sent
 
 module _ (log : PairLog) (space : SpaceId) (now size n : ℕ) (items : Vec ℕ) (eliciting : Bool) (window : Option ℕ) where
-  sent_here : (end : End) (there : SpaceId)
-      → sent_in end there ((Send end space now size, Ok (Sent n items eliciting window)) ∷ log)
-      ≡ more_if (same_space space there) (sent_in end there log)
-  sent_here Client there = refl
-  sent_here Server there = refl
+  sent_here : (end : End) (measure : List ℕ → ℕ) (there : SpaceId)
+      → sent_in end measure there ((Send end space now size, Ok (Sent n items eliciting window)) ∷ log)
+      ≡ part (same_space space there) (measure items.items) + sent_in end measure there log
+  sent_here Client measure there = refl
+  sent_here Server measure there = refl
 
   sent_not : (end : End) → LeavesQueue (Send end space now size, Ok (Sent n items eliciting window)) log (other_end end)
-  sent_not Client = record { handed_same = λ there. refl; sent_same = λ there. refl }
-  sent_not Server = record { handed_same = λ there. refl; sent_same = λ there. refl }
+  sent_not Client = record {
+    handed_same = λ measure there. refl;
+    sent_same = λ measure there. nothing_more (sent_in Server measure there log);
+  }
+  sent_not Server = record {
+    handed_same = λ measure there. refl;
+    sent_same = λ measure there. nothing_more (sent_in Client measure there log);
+  }
 
 pub sent_queue : (end : End) (space : SpaceId) (now size n : ℕ) (items : Vec ℕ) (eliciting : Bool)
     (window : Option ℕ)
     (client server client_after server_after : List Waiting)
-    → TurnsAt end (λ (old new : List Waiting). LosesOne old new space) client server client_after server_after
+    → TurnsAt end (λ (old new : List Waiting). LosesOne old new space items.items) client server client_after
+    server_after
     → QueueKept client server (Send end space now size) (Ok (Sent n items eliciting window)) client_after server_after
 sent_queue end space now size n items eliciting window =
-    queue_turn end (λ (old new : List Waiting). LosesOne old new space) (Send end space now size) (Ok (Sent n items
+    queue_turn end (λ (old new : List Waiting). LosesOne old new space items.items) (Send end space now size) (Ok (Sent
+    n items
     eliciting window))
     here (λ log. sent_not log space now size n items eliciting window end)
   where
-    here : (old new : List Waiting) → LosesOne old new space
+    here : (old new : List Waiting) → LosesOne old new space items.items
         → QueueKeptAt end (Send end space now size) (Ok (Sent n items eliciting window)) old new
     here old new loses log queued = (
       tt,
-      λ there. subst (λ (sent : ℕ). handed end there log ≤ waiting_in there new + sent)
-          (sym (sent_here log space now size n items eliciting window end there))
-          (more_both (same_space space there) (handed end there log) (waiting_in there old) (sent_in end there log)
-          (waiting_in there new) (queued there) (loses there)),
+      λ measure there. subst (λ (sent : ℕ). handed end measure there log ≤ waiting_in measure there new + sent)
+          (sym (sent_here log space now size n items eliciting window end measure there))
+          (more_both (part (same_space space there) (measure items.items)) (handed end measure there log)
+          (waiting_in measure there old) (sent_in end measure there log) (waiting_in measure there new)
+          (queued measure there) (loses measure there)),
     )
 
 -- ---- nothing is sent
 
 pub nothing_queue : (end : End) (space : SpaceId) (now size : ℕ)
     (client server client_after server_after : List Waiting)
-    → TurnsAt end (λ (old new : List Waiting). LosesNone old new × (waiting_in space old ≡ 0)) client server
+    → TurnsAt end (λ (old new : List Waiting). LosesNone old new × ((measure : List ℕ → ℕ) → waiting_in measure space
+    old ≡ 0)) client server
     client_after
     server_after → QueueKept client server (Send end space now size) (Ok Nothing) client_after server_after
 nothing_queue end space now size =
-    queue_turn end (λ (old new : List Waiting). LosesNone old new × (waiting_in space old ≡ 0))
+    queue_turn end (λ (old new : List Waiting). LosesNone old new × ((measure : List ℕ → ℕ) → waiting_in measure space
+    old ≡ 0))
     (Send end space now size) (Ok Nothing) here
-    (λ log. record { handed_same = λ there. refl; sent_same = λ there. refl })
+    (λ log. record { handed_same = λ measure there. refl; sent_same = λ measure there. refl })
   where
-    here : (old new : List Waiting) → LosesNone old new × (waiting_in space old ≡ 0)
+    here : (old new : List Waiting) → LosesNone old new × ((measure : List ℕ → ℕ) → waiting_in measure space old ≡ 0)
         → QueueKeptAt end (Send end space now size) (Ok Nothing) old new
     here old new keeps log queued = (
-      (let one = queued space in let none = keeps.1 in omega (arith, one, none)),
+      λ measure. (let one = queued measure space in let none = keeps.1 measure in omega (arith, one, none)),
       queued_on (Send end space now size, Ok Nothing) log end old new
-          (record { handed_same = λ there. refl; sent_same = λ there. refl }) keeps.0 queued,
+          (record { handed_same = λ measure there. refl; sent_same = λ measure there. refl }) keeps.0 queued,
     )
 
 -- a step by which nothing is handed over or sent, if something is owed
@@ -188,18 +201,28 @@ same_queue step answer leaves sends client server =
 -- ---- something happens at one end
 
 module _ (log : PairLog) where
-  handed_here : (end : End) (space there : SpaceId) (items : Vec ℕ)
-      → handed end there ((Local end (Hand space items), Ok Done) ∷ log)
-      ≡ more_if (same_space space there) (handed end there log)
-  handed_here Client space there items = refl
-  handed_here Server space there items = refl
+  handed_here : (end : End) (measure : List ℕ → ℕ) (space there : SpaceId) (items : Vec ℕ)
+      → handed end measure there ((Local end (Hand space items), Ok Done) ∷ log)
+      ≡ part (same_space space there) (measure items.items) + handed end measure there log
+  handed_here Client measure space there items = refl
+  handed_here Server measure space there items = refl
 
   handed_not : (end : End) (step : LocalStep) (answer : Result PairAnswer SenderError)
       → LeavesQueue (Local end step, answer) log (other_end end)
-  handed_not Client (Hand space items) (Ok Done) = record { handed_same = λ there. refl; sent_same = λ there. refl }
-  handed_not Server (Hand space items) (Ok Done) = record { handed_same = λ there. refl; sent_same = λ there. refl }
-  handed_not end (Hand space items) answer = record { handed_same = λ there. refl; sent_same = λ there. refl }
-  handed_not end step answer = record { handed_same = λ there. refl; sent_same = λ there. refl }
+  handed_not Client (Hand space items) (Ok Done) = record {
+    handed_same = λ measure there. nothing_more (handed Server measure there log);
+    sent_same = λ measure there. refl;
+  }
+  handed_not Server (Hand space items) (Ok Done) = record {
+    handed_same = λ measure there. nothing_more (handed Client measure there log);
+    sent_same = λ measure there. refl;
+  }
+  handed_not end (Hand space items) answer = record {
+    handed_same = λ measure there. refl;
+    sent_same = λ measure there.
+        refl;
+  }
+  handed_not end step answer = record { handed_same = λ measure there. refl; sent_same = λ measure there. refl }
 
   local_sends : (end : End) (step : LocalStep) (answer : Result PairAnswer SenderError)
       → IsNoPacket (Local end step, answer) → SendsWhatWaits log (Local end step, answer)
@@ -208,17 +231,18 @@ module _ (log : PairLog) where
 
   local_here : (end : End) (step : LocalStep) (answer : Result PairAnswer SenderError) (old new : List Waiting)
       → LocalWaits old new step answer → AreQueued log end old → AreQueued ((Local end step, answer) ∷ log) end new
-  local_here end (Hand space items) (Ok Done) old new gains queued = λ there.
-      subst (λ (all : ℕ). all ≤ waiting_in there new + sent_in end there log)
-      (sym (handed_here end space there items))
-      (more_handed (same_space space there) (handed end there log) (waiting_in there old) (sent_in end there log)
-      (waiting_in there new) (queued there) (gains there))
+  local_here end (Hand space items) (Ok Done) old new gains queued = λ measure there.
+      subst (λ (all : ℕ). all ≤ waiting_in measure there new + sent_in end measure there log)
+      (sym (handed_here end measure space there items))
+      (more_handed (part (same_space space there) (measure items.items)) (handed end measure there log)
+      (waiting_in measure there old) (sent_in end measure there log) (waiting_in measure there new)
+      (queued measure there) (gains measure there))
   local_here end (Hand space items) answer old new keeps queued =
       queued_on (Local end (Hand space items), answer) log end old new
-      (record { handed_same = λ there. refl; sent_same = λ there. refl }) keeps queued
+      (record { handed_same = λ measure there. refl; sent_same = λ measure there. refl }) keeps queued
   local_here end step answer old new keeps queued =
       queued_on (Local end step, answer) log end old new
-      (record { handed_same = λ there. refl; sent_same = λ there. refl }) keeps queued
+      (record { handed_same = λ measure there. refl; sent_same = λ measure there. refl }) keeps queued
 
 pub local_queue : (end : End) (step : LocalStep) (answer : Result PairAnswer SenderError)
     → IsNoPacket (Local end step, answer) → (client server client_after server_after : List Waiting)

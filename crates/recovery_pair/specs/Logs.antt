@@ -2,7 +2,6 @@
 use Rattle.std.specs.Prelude.{◌≡◌, ℕ, ◌+◌, ◌<◌, ◌==◌, ◌&&◌, ◌||◌, Bool, true, false, List, [], ◌∷◌, ◌++◌, length, get_or, Result, Ok, if◌then◌else◌}
 use Rattle.recovery_base.specs.declared.below.SpaceId.{SpaceId}
 use Rattle.recovery_base.specs.Spaces.{same_space}
-use Rattle.recovery_history.specs.Promises.Fates.{more_if}
 use Rattle.recovery_sender.specs.declared.sender.SenderError.{SenderError}
 use Rattle.recovery_pair.specs.declared.steps.End.{End}
 use Rattle.recovery_pair.specs.declared.steps.End.TheVariants.{Client, Server}
@@ -21,6 +20,10 @@ abbrev pub same_end : End → End → Bool
 same_end Client Client = true
 same_end Server Server = true
 same_end one other = false
+
+-- an amount that counts only here
+abbrev pub part : Bool → ℕ → ℕ
+part here amount = if here then amount else 0
 
 -- a step with its answer, or its error
 abbrev pub PairEvent : Type 0
@@ -108,16 +111,16 @@ module _ (end : End) where
       if same_end to end && same_space there space then number ∷ numbers_at space earlier else numbers_at space earlier
   numbers_at space (event ∷ earlier) = numbers_at space earlier
 
-  -- how many packets of a space it was handed
-  abbrev pub handed : SpaceId → PairLog → ℕ
-  handed space [] = 0
-  handed space ((Local at (Hand there items), Ok Done) ∷ earlier) =
-      more_if (same_end at end && same_space there space) (handed space earlier)
-  handed space (event ∷ earlier) = handed space earlier
+  -- by a measure of the items of a packet: what it was handed in a space
+  abbrev pub handed : (List ℕ → ℕ) → SpaceId → PairLog → ℕ
+  handed measure space [] = 0
+  handed measure space ((Local at (Hand there items), Ok Done) ∷ earlier) =
+      part (same_end at end && same_space there space) (measure items.items) + handed measure space earlier
+  handed measure space (event ∷ earlier) = handed measure space earlier
 
-  -- how many packets of a space it sent
-  abbrev pub sent_in : SpaceId → PairLog → ℕ
-  sent_in space [] = 0
-  sent_in space ((Send from there now size, Ok (Sent number items eliciting window)) ∷ earlier) =
-      more_if (same_end from end && same_space there space) (sent_in space earlier)
-  sent_in space (event ∷ earlier) = sent_in space earlier
+  -- and what it sent there
+  abbrev pub sent_in : (List ℕ → ℕ) → SpaceId → PairLog → ℕ
+  sent_in measure space [] = 0
+  sent_in measure space ((Send from there now size, Ok (Sent number items eliciting window)) ∷ earlier) =
+      part (same_end from end && same_space there space) (measure items.items) + sent_in measure space earlier
+  sent_in measure space (event ∷ earlier) = sent_in measure space earlier

@@ -36,8 +36,8 @@ pub record KeepsPromises (validated : Bool) (log : PairLog) (event : PairEvent) 
   pub window : SendsWithinWindow log event
   -- What is in flight exceeds the largest window so far by the probes in flight at most (RFC 9002, 7 and 7.5).
   pub flight : ExceedsByProbes (event ∷ log)
-  -- An endpoint has nothing to send in a space only once it has sent no fewer packets there than were passed to it
-  -- (RFC 9000, 13).
+  -- An endpoint has nothing to send in a space only once it has sent there no less than was passed to it, by every
+  -- measure of the items of a packet (RFC 9000, 13).
   pub sends : SendsWhatWaits log event
   -- A step of one endpoint has an answer of its kind, never another (RFC 9002, 6.2 and 6.4).
   pub local : AnswersLocally event

@@ -1,5 +1,5 @@
 //! An endpoint of a connection: a sender with its caller.
-ghost use Rattle.std.specs.Prelude.{◌≡◌, ◌+◌, ◌<◌, ◌≤◌, IfOk, false, length, [], ◌∷◌, ◌++◌};
+ghost use Rattle.std.specs.Prelude.{◌≡◌, ◌+◌, ◌<◌, ◌≤◌, ℕ, List, IfOk, false, length, [], ◌∷◌, ◌++◌};
 ghost use Rattle.std.specs.Vec.{vec_len, vec_capacity};
 ghost use Rattle.recovery_pair.specs.Pasts.{Continues, GoesOn, GoesOnQuietly};
 ghost use Rattle.recovery_pair.specs.Turns.{HearTurn, PackTurn, SendTurn, local_turn};
@@ -68,8 +68,9 @@ fn place_of(waiting: &[Waiting], space: SpaceId) -> Option<usize>
 }
 
 /// Returns the items that are to be repeated, or if there are none, those that wait longest in the space, if any.
+#[tactic(auto, using(crate::proofs::WaitLaws::lost_one))]
 fn take_waiting(waiting: &mut Vec<Waiting>, space: SpaceId, repeated: ItemQueue) -> ItemQueue
-    ensures loses { LosesOne waiting.old.items waiting.new.items space }
+    ensures loses { LosesOne waiting.old.items waiting.new.items space result }
     ensures len { vec_len waiting.new ≤ vec_len waiting.old }
     ensures capacity { vec_capacity waiting.new ≡ vec_capacity waiting.old }
 {
@@ -101,7 +102,8 @@ where
 
     /// Returns whether an ack-eliciting packet is to be sent in a space: a probe is due, or items wait.
     fn has_items(&self, space: SpaceId) -> bool
-        ensures { result ≡ false → waiting_in space self.now.waiting.items ≡ 0 }
+        ensures { result ≡ false
+            → (measure : List ℕ → ℕ) → waiting_in measure space self.now.waiting.items ≡ 0 }
     {
         if self.sender.variables().is_probe_due(space) || place_of(&self.waiting, space).is_some() {
             return true;
@@ -149,6 +151,7 @@ where
     }
 
     /// Packs and records the packet of a datagram that is permitted.
+    #[tactic(auto, using(crate::proofs::WaitLaws::kept_again, crate::proofs::WaitLaws::lost_then))]
     fn pack(
         &mut self,
         alloc: Global,
@@ -220,7 +223,7 @@ where
     fn keep(&mut self, space: SpaceId, queue: ItemQueue)
         requires room { vec_len self.old.waiting < vec_capacity self.old.waiting }
         ensures goes { self.new.sender ≡ self.old.sender }
-        ensures waits { GainsOne self.old.waiting.items self.new.waiting.items space }
+        ensures waits { GainsOne self.old.waiting.items self.new.waiting.items space queue }
     {
         self.waiting.push_reserved(Waiting { space, queue });
     }
@@ -292,7 +295,8 @@ where
     fn hand(&mut self, space: SpaceId, items: Vec<u64>) -> Result<PairAnswer, SenderError>
         ensures goes { self.new.sender ≡ self.old.sender }
         ensures answer { IfOk result IsDone }
-        ensures waits { HandWaits self.old.waiting.items self.new.waiting.items space result }
+        ensures waits { HandWaits self.old.waiting.items self.new.waiting.items space items.items
+            result }
     {
         match self.waiting.reserve(1) {
             Ok(()) => {}

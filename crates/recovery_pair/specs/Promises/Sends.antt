@@ -1,6 +1,8 @@
--- An endpoint sends what is passed to it. It has nothing to send in a space only once it has sent no fewer packets
--- there than were passed to it. An endpoint that drops one, or sends nothing, breaks this.
-use Rattle.std.specs.Prelude.{◌≤◌, Result, Ok}
+-- An endpoint sends what is passed to it. It has nothing to send in a space only once it has sent there no less than
+-- was
+-- passed to it, by every measure of the items of a packet: how many packets there are, how often an item occurs. An
+-- endpoint that drops one, sends other items, or sends nothing, breaks this.
+use Rattle.std.specs.Prelude.{ℕ, ◌≤◌, List, Result, Ok}
 use Rattle.recovery_base.specs.declared.below.SpaceId.{SpaceId}
 use Rattle.recovery_sender.specs.declared.sender.SenderError.{SenderError}
 use Rattle.recovery_pair.specs.declared.steps.End.{End}
@@ -11,7 +13,8 @@ use Rattle.recovery_pair.specs.Logs.{PairEvent, PairLog, handed, sent_in}
 
 -- the answer to an end that is to send: its packet, what holds it back, or nothing, if it owes nothing
 abbrev pub IsAnsweredSend : PairLog → End → SpaceId → Result PairAnswer SenderError → Type 0
-IsAnsweredSend log end space (Ok Nothing) = handed end space log ≤ sent_in end space log
+IsAnsweredSend log end space (Ok Nothing) =
+    (measure : List ℕ → ℕ) → handed end measure space log ≤ sent_in end measure space log
 IsAnsweredSend log end space (Ok Done) = ⊥
 IsAnsweredSend log end space (Ok (Expired timeout)) = ⊥
 IsAnsweredSend log end space (Ok (Arrived to there number size fate)) = ⊥

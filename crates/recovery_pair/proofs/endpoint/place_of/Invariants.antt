@@ -1,10 +1,11 @@
-use Rattle.std.proofs.Common.{◌≡◌, ◌≤◌, ◌-◌, length, drop}
+use Rattle.std.proofs.Common.{◌≡◌, ◌≤◌, ◌-◌, ℕ, List, length, drop}
 use Rattle.recovery_pair.specs.Waits.{waiting_in}
 use Rattle.recovery_pair.proofs.endpoint.place_of.Given as goal
 
 abbrev pub invariant-loop-at : goal.invariant-loop-at
 invariant-loop-at l = record {
-  passed : waiting_in l.fn.space l.fn.waiting ≡ waiting_in l.fn.space (drop l.at l.fn.waiting);
+  passed : (measure : List ℕ → ℕ) → waiting_in measure l.fn.space l.fn.waiting
+      ≡ waiting_in measure l.fn.space (drop l.at l.fn.waiting);
   within : l.at ≤ length l.fn.waiting;
 }
 

@@ -1,8 +1,8 @@
-use Rattle.recovery_pair.proofs.WaitLaws.{one_removed}
+use Rattle.recovery_pair.proofs.WaitLaws.{removed_one}
 use Rattle.recovery_pair.proofs.endpoint.take_waiting.Goals as goal
 
 pub returns-in-Some-clause-loses : goal.returns-in-Some-clause-loses
-returns-in-Some-clause-loses c = λ space. (
+returns-in-Some-clause-loses c =
     let place = rw c.deref.ensures.value at c.in-Some.ensures in
-    rw c.remove.ensures.items (one_removed c.args.space space c.args.waiting.now.items c.in-Some.at c.remove.result
-    place.0 (place.1 c.remove.result)))
+    removed_one c.args.space c.args.waiting.now.items c.remove.new.self.items c.in-Some.at c.remove.result place.0
+    (place.1 c.remove.result) c.remove.ensures.value c.remove.ensures.items

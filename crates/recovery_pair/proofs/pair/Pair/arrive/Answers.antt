@@ -16,8 +16,8 @@ returns-in_default-clause-keeps g c = step_keeps c.args.self.now.client.sender c
     (λ log listed. beyond c.args.self.now.wire.items log c.args.at c.args.now
     (rw (← c.deref.ensures.value) c.in_default.ensures.lookup.3) listed))
     tt (same_queue (Arrive c.args.at c.args.now) (Ok Nothing) (λ log end. record {
-      handed_same = λ there. refl;
-      sent_same = λ there. refl;
+      handed_same = λ measure there. refl;
+      sent_same = λ measure there. refl;
     }) (λ log. tt) c.args.self.now.client.waiting.items
     c.args.self.now.server.waiting.items)
 
@@ -37,7 +37,7 @@ returns-in-Ok-clause-keeps g c = step_keeps c.args.self.now.client.sender c.args
     c.hear_at.new.server.sender c.other-to.ensures c.in-Ok.ensures.goes)
     tt (still_queue c.other-to.result (Arrive c.args.at c.args.now) (Ok (Arrived c.other-to.result
     c.in-Some.packet.now.space c.in-Some.packet.now.number c.in-Some.packet.now.size c.in-Ok.fate))
-    (λ log end. record { handed_same = λ there. refl; sent_same = λ there. refl }) (λ log. tt)
+    (λ log end. record { handed_same = λ measure there. refl; sent_same = λ measure there. refl }) (λ log. tt)
     c.args.self.now.client.waiting.items
     c.args.self.now.server.waiting.items c.hear_at.new.client.waiting.items c.hear_at.new.server.waiting.items
     c.in-Ok.ensures.waits)
@@ -54,8 +54,8 @@ returns-in-Err-clause-keeps g c = step_keeps c.args.self.now.client.sender c.arg
     c.hear_at.new.server.sender c.args.self.now.wire.items c.args.self.now.wire.items refl tt tt
     (λ log listed. tt) c.in-Err.ensures.goes)
     tt (still_queue c.other-to.result (Arrive c.args.at c.args.now) (Err c.in-Err.refused) (λ log end. record {
-      handed_same = λ there. refl;
-      sent_same = λ there. refl;
+      handed_same = λ measure there. refl;
+      sent_same = λ measure there. refl;
     }) (λ log. tt) c.args.self.now.client.waiting.items
     c.args.self.now.server.waiting.items c.hear_at.new.client.waiting.items c.hear_at.new.server.waiting.items
     c.in-Err.ensures.waits)

@@ -56,7 +56,7 @@ returns-in-Ok-Held-clause-keeps g c = step_keeps c.args.self.now.client.sender c
     c.send_from.new.client.sender c.send_from.new.server.sender c.args.self.now.wire.items c.reserve.new.self.items
     c.in-Ok.ensures.items tt tt (λ log listed. tt) (rw c.in-Ok-Held.field-0-is at c.in-Ok-Held.ensures.goes))
     tt (still_queue c.args.end (Send c.args.end c.args.space c.args.now c.args.size) (Ok (Held c.in-Ok-Held.held))
-    (λ log end. record { handed_same = λ there. refl; sent_same = λ there. refl }) (λ log. tt)
+    (λ log end. record { handed_same = λ measure there. refl; sent_same = λ measure there. refl }) (λ log. tt)
     c.args.self.now.client.waiting.items
     c.args.self.now.server.waiting.items c.send_from.new.client.waiting.items c.send_from.new.server.waiting.items
     (rw c.in-Ok-Held.field-0-is at c.in-Ok-Held.ensures.waits))
@@ -74,7 +74,7 @@ returns-in-Ok-Failed-clause-keeps g c = step_keeps c.args.self.now.client.sender
     c.in-Ok.ensures.items tt tt (λ log listed. tt) (rw c.in-Ok-Failed.field-0-is at c.in-Ok-Failed.ensures.goes))
     tt (still_queue c.args.end (Send c.args.end c.args.space c.args.now c.args.size) (Ok (Failed
     c.in-Ok-Failed.refused))
-    (λ log end. record { handed_same = λ there. refl; sent_same = λ there. refl }) (λ log. tt)
+    (λ log end. record { handed_same = λ measure there. refl; sent_same = λ measure there. refl }) (λ log. tt)
     c.args.self.now.client.waiting.items
     c.args.self.now.server.waiting.items c.send_from.new.client.waiting.items c.send_from.new.server.waiting.items
     (rw c.in-Ok-Failed.field-0-is at c.in-Ok-Failed.ensures.waits))
@@ -91,7 +91,7 @@ returns-in-Err-send_from-clause-keeps g c = step_keeps c.args.self.now.client.se
     c.send_from.new.client.sender c.send_from.new.server.sender c.args.self.now.wire.items c.reserve.new.self.items
     c.in-Ok.ensures.items tt tt (λ log listed. tt) c.in-Err-send_from.ensures.goes)
     tt (still_queue c.args.end (Send c.args.end c.args.space c.args.now c.args.size) (Err c.in-Err-send_from.refused)
-    (λ log end. record { handed_same = λ there. refl; sent_same = λ there. refl }) (λ log. tt)
+    (λ log end. record { handed_same = λ measure there. refl; sent_same = λ measure there. refl }) (λ log. tt)
     c.args.self.now.client.waiting.items
     c.args.self.now.server.waiting.items c.send_from.new.client.waiting.items c.send_from.new.server.waiting.items
     c.in-Err-send_from.ensures.waits)
@@ -106,8 +106,8 @@ returns-in-Err-clause-keeps g c = step_keeps c.args.self.now.client.sender c.arg
     c.args.self.now.server.sender c.args.self.now.wire.items c.reserve.new.self.items c.in-Err.ensures.items tt tt
     (λ log listed. tt))
     tt (same_queue (Send c.args.end c.args.space c.args.now c.args.size) (Err (Event NoMemory)) (λ log end. record {
-      handed_same = λ there. refl;
-      sent_same = λ there. refl;
+      handed_same = λ measure there. refl;
+      sent_same = λ measure there. refl;
     }) (λ log. tt) c.args.self.now.client.waiting.items
     c.args.self.now.server.waiting.items)
 
