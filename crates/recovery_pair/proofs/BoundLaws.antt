@@ -26,7 +26,7 @@ module _ (end : End) where
   parts : (gone : Numbers) (log : PairLog) → flight_of end (λ window. true) gone log
       ≡ flight_of end is_some gone log + flight_of end (λ window. not (is_some window)) gone log
   parts gone [] = refl
-  parts gone ((Send from there now size, Ok (Sent number items eliciting window)) ∷ earlier) =
+  parts gone ((Send from there now size, Ok (Sent number items eliciting window delay)) ∷ earlier) =
       parts_head (same_end from end) (is_some window) (gone there number) eliciting size
       (flight_of end (λ window. true) gone earlier) (flight_of end is_some gone earlier)
       (flight_of end (λ window. not (is_some window)) gone earlier) (parts gone earlier)
@@ -51,7 +51,7 @@ module _ (end : End) where
       → ((space : SpaceId) (n : ℕ) → fewer space n ≡ true → gone space n ≡ true)
       → flight_of end is_such gone log ≤ flight_of end is_such fewer log
   less is_such gone fewer [] by = omega arith
-  less is_such gone fewer ((Send from there now size, Ok (Sent number items eliciting window)) ∷ earlier) by =
+  less is_such gone fewer ((Send from there now size, Ok (Sent number items eliciting window delay)) ∷ earlier) by =
       sums _ _ _ _ (less_head (same_end from end && is_such window) (gone there number) (fewer there number) eliciting
       size (by there number)) (less is_such gone fewer earlier by)
   less is_such gone fewer (event ∷ earlier) by =
@@ -92,23 +92,23 @@ none_more checked largest less = omega (arith, less)
 pub within_on : (log : PairLog) (event : PairEvent) → SendsWithinWindow log event
     → ((end : End) → flight_of end is_some no_numbers log ≤ largest_window end log)
     → (end : End) → flight_of end is_some no_numbers (event ∷ log) ≤ largest_window end (event ∷ log)
-within_on log (Send Client there now size, Ok (Sent number items eliciting (Some window))) fits before Client =
+within_on log (Send Client there now size, Ok (Sent number items eliciting (Some window) delay)) fits before Client =
     sent_within eliciting size window (checked_flight Client log) (flight Client log) (largest_window Client log) fits
     (checked_all Client log)
-within_on log (Send Server there now size, Ok (Sent number items eliciting (Some window))) fits before Server =
+within_on log (Send Server there now size, Ok (Sent number items eliciting (Some window) delay)) fits before Server =
     sent_within eliciting size window (checked_flight Server log) (flight Server log) (largest_window Server log) fits
     (checked_all Server log)
-within_on log (Send Client there now size, Ok (Sent number items eliciting (Some window))) fits before Server =
+within_on log (Send Client there now size, Ok (Sent number items eliciting (Some window) delay)) fits before Server =
     none_more (checked_flight Server log) (largest_window Server log) (before Server)
-within_on log (Send Server there now size, Ok (Sent number items eliciting (Some window))) fits before Client =
+within_on log (Send Server there now size, Ok (Sent number items eliciting (Some window) delay)) fits before Client =
     none_more (checked_flight Client log) (largest_window Client log) (before Client)
-within_on log (Send Client there now size, Ok (Sent number items eliciting None)) fits before Client =
+within_on log (Send Client there now size, Ok (Sent number items eliciting None delay)) fits before Client =
     none_more (checked_flight Client log) (largest_window Client log) (before Client)
-within_on log (Send Server there now size, Ok (Sent number items eliciting None)) fits before Server =
+within_on log (Send Server there now size, Ok (Sent number items eliciting None delay)) fits before Server =
     none_more (checked_flight Server log) (largest_window Server log) (before Server)
-within_on log (Send Client there now size, Ok (Sent number items eliciting None)) fits before Server =
+within_on log (Send Client there now size, Ok (Sent number items eliciting None delay)) fits before Server =
     none_more (checked_flight Server log) (largest_window Server log) (before Server)
-within_on log (Send Server there now size, Ok (Sent number items eliciting None)) fits before Client =
+within_on log (Send Server there now size, Ok (Sent number items eliciting None delay)) fits before Client =
     none_more (checked_flight Client log) (largest_window Client log) (before Client)
 within_on log event fits before end = both _ _ _ (not_more end event log) (before end)
   where

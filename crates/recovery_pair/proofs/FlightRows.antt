@@ -20,11 +20,11 @@ use Rattle.recovery_pair.specs.Promises.Window.{SendsWithinWindow}
 module _ (items : Vec ℕ) where
   -- the client sends 1000 bytes
   abbrev sent : ℕ → Option ℕ → PairEvent
-  sent n window = (Send Client Data 5 1000, Ok (Sent n items true window))
+  sent n window = (Send Client Data 5 1000, Ok (Sent n items true window 0))
 
   -- an ACK alone does not count
   abbrev acks_alone : PairEvent
-  acks_alone = (Send Client Data 5 60, Ok (Sent 2 items false None))
+  acks_alone = (Send Client Data 5 60, Ok (Sent 2 items false None 0))
 
   -- one for a window of 1500 bytes, then a probe
   abbrev two : PairLog

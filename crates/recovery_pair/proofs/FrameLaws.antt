@@ -4,7 +4,7 @@ use Rattle.std.proofs.lemmas.Bool.Decides.{nat_tests}
 use Rattle.std.specs.declared.ops.Range.{Range}
 use Rattle.recovery_base.specs.declared.below.SpaceId.{SpaceId}
 use Rattle.recovery_base.specs.Ranges.{AreApart, InRanges}
-use Rattle.recovery_acks.specs.Acks.{IsPending}
+use Rattle.recovery_acks.specs.Acks.{delay_at, IsPending}
 use Rattle.recovery_spaces.specs.Spaces.{Space, acks_of, space_of}
 use Rattle.std.proofs.lemmas.List.{drop_more, length-append}
 use Rattle.recovery_losses.specs.Frames.{are_apart, is_apart, IsInAckRanges}
@@ -138,10 +138,12 @@ some_end low (range ∷ all) zero apart within = let whole = apart.1 in omega (a
 some_end low (range ∷ all) (suc at) apart within = some_end (range.end + 1) all at apart.2 (omega (arith, within))
 
 module _ {F Q R C K S M P : Type 0} {f : _} {c : _} {q : _} {m : _} {r : _} where
-  pub frame_for : (space : SpaceId) (sender : Sender F Q R C K S M P f c q m r) (all : List (Range ℕ)) (at : ℕ)
-      (items : List (ℕ × ℕ)) (here : Space P M) → items ≡ frame_of (drop at all) → at ≤ 0 → AreApart 0 all
-      → all ≡ (acks_of here).ranges → here ≡ space_of space (state_in sender).spaces → IsFrameFor space sender items
-  frame_for space sender all at items here is end apart same there =
+  pub frame_for : (space : SpaceId) (now : ℕ) (sender : Sender F Q R C K S M P f c q m r) (all : List (Range ℕ)) (at :
+      ℕ)
+      (items : List (ℕ × ℕ)) (delay : ℕ) (here : Space P M) → items ≡ frame_of (drop at all) → at ≤ 0 → AreApart 0 all
+      → all ≡ (acks_of here).ranges → here ≡ space_of space (state_in sender).spaces
+      → delay ≡ delay_at now (acks_of here).counts.largest → IsFrameFor space now sender items delay
+  frame_for space now sender all at items delay here is end apart same there waits =
       let none : at ≡ 0 = omega (arith, end) in
       let whole : items ≡ frame_of all = is ∙ ap (λ (k : ℕ). frame_of (drop k all)) none in
       record {
@@ -149,4 +151,5 @@ module _ {F Q R C K S M P : Type 0} {f : _} {c : _} {q : _} {m : _} {r : _} wher
         each = λ n in_frame. subst (λ (there : Space P M). IsPending (acks_of there) n) there
             (subst (λ (ranges : List (Range ℕ)). InRanges ranges n) same
             (frame_has n all apart (subst (IsInAckRanges n) whole in_frame)));
+        waited = waits ∙ ap (λ (space : Space P M). delay_at now (acks_of space).counts.largest) there;
       }

@@ -28,7 +28,7 @@ use Rattle.recovery_history.proofs.TrackedLaws.{one_space}
 use Rattle.recovery_sender.specs.declared.sender.SenderError.{SenderError}
 use Rattle.recovery_sender.specs.declared.sender.SenderError.TheVariants as refused
 use Rattle.recovery_pair.specs.Flights.{Numbers, counted_if, no_numbers}
-use Rattle.recovery_pair.specs.Pasts.{Came, GoesOn, GoesOnQuietly, HearsNumber, IsHeardBy, SendsNumber, EndTurn, WasSentUnder, arriving, bytes_received, bytes_transmitted, came_by, discarding, ending, hearing, is_of, leaving, new_by, packet_leaving, quiet, validating, with_number}
+use Rattle.recovery_pair.specs.Pasts.{Came, GoesOn, GoesOnQuietly, HearsNumber, IsHeardBy, SendsNumber, EndTurn, WasSentUnder, arriving, bytes_received, bytes_transmitted, came_by, discarding, ending, hearing, is_of, largest_came, leaving, new_by, packet_leaving, quiet, validating, with_largest, with_number}
 use Rattle.recovery_pair.proofs.FlightLaws.{flight_event, flight_less, gone_again, or_gone, sent_leaves, zero_more}
 
 -- it is no receipt, no datagram, and changes neither spaces nor paths
@@ -133,6 +133,11 @@ module _ {Q S M P : Type 0} (past : History Q S M P) where
   datagrams_before (Transmit now bytes checked) reply calm = absurd calm
   datagrams_before event reply calm = refl
 
+  largest_before : (space : SpaceId) (event : Event Q S M P) (reply : Reply Q) → IsQuietEvent event
+      → largest_came space ((event, reply) ∷ past) ≡ largest_came space past
+  largest_before space (Received there now m eliciting) reply calm = absurd calm
+  largest_before space event reply calm = refl
+
   generation_before : (event : Event Q S M P) (reply : Reply Q) → IsQuietEvent event
       → (generations ((event, reply) ∷ past)).current ≡ (generations past).current
   generation_before (NewPath now remote is_fresh) reply calm = absurd calm
@@ -189,6 +194,7 @@ module _ {Q S M P : Type 0} where
     left = no_less (bytes_transmitted past) (bytes_transmitted past) refl;
     discarded = λ space. refl;
     validated = λ first. refl;
+    largest = λ space. refl;
     flight = λ gone. zero_more _ _ (flight_less (λ space n. ends space n || gone space n) gone past
         (λ space n is. or_gone (ends space n) (gone space n) is));
   }
@@ -209,6 +215,7 @@ module _ {Q S M P : Type 0} where
             (sym (ap (sum_by bytes_out) (datagrams_before past event reply calm)));
         discarded = λ space. discarded_before past space event reply calm;
         validated = λ first. validated_before past first event reply calm;
+        largest = λ space. largest_before past space event reply calm;
         flight = flight_event past event reply None ends (generation_before past event reply calm) (λ gone. omega arith)
             (λ space n leave. inl (ends_by past ends event reply is space n leave));
       }
@@ -224,6 +231,7 @@ module _ {Q S M P : Type 0} where
     left = goes.left;
     discarded = goes.discarded;
     validated = goes.validated;
+    largest = goes.largest;
     flight = λ gone. (
         let one = flight_less (λ space n. ends space n || gone space n) gone past
         (λ space n is. or_gone (ends space n) (gone space n) is) in
@@ -244,6 +252,8 @@ module _ {Q S M P : Type 0} where
           ∙ ap (λ (before : Bool). is_of space turn.discards || before) (first.discarded space);
       validated = λ start. second.validated start
           ∙ ap (λ (before : Bool). turn.validates || before) (first.validated start);
+      largest = λ space. second.largest space
+          ∙ ap (with_largest space turn.heard turn.at) (first.largest space);
       flight = λ gone. (
           let one = first.flight (λ space n. turn.ends space n || gone space n) in
           let two = second.flight gone in omega (arith, one, two));
@@ -272,6 +282,7 @@ module _ {Q S M P : Type 0} where
       left = let one = first.left in let two = second.left in omega (arith, one, two);
       discarded = λ space. second.discarded space ∙ first.discarded space;
       validated = λ start. second.validated start ∙ first.validated start;
+      largest = λ space. second.largest space ∙ first.largest space;
       flight = λ gone. (let one = first.flight gone in let two = second.flight gone in omega (arith, one, two));
     }
       where
@@ -295,6 +306,7 @@ module _ {Q S M P : Type 0} where
     left = let some = goes.left in omega (arith, some);
     discarded = goes.discarded;
     validated = goes.validated;
+    largest = goes.largest;
     flight = goes.flight;
   }
 
@@ -309,6 +321,7 @@ module _ {Q S M P : Type 0} where
     left = let one = first.left in let two = second.left in omega (arith, one, two);
     discarded = λ space. second.discarded space ∙ first.discarded space;
     validated = λ start. second.validated start ∙ first.validated start;
+    largest = λ space. second.largest space ∙ first.largest space;
     flight = λ gone. (
         let one = first.flight (λ space n. ends space n || gone space n) in
         let two = second.flight gone in
@@ -348,6 +361,7 @@ module _ {Q S M P : Type 0} where
           left = no_less (bytes_transmitted past) (bytes_transmitted past) refl;
           discarded = λ there. refl;
           validated = λ first. refl;
+          largest = λ there. refl;
           flight = flight_event past event reply (Some (space, n, counted_if eliciting size)) no_numbers refl
               (λ gone. omega arith)
               (λ there m leave. inr (sent_leaves past space now size eliciting largest queue frames n forgotten once
@@ -390,6 +404,7 @@ module _ {Q S M P : Type 0} where
         left = let one = first.left in let two = second.goes.left in omega (arith, one, two);
         discarded = λ there. second.goes.discarded there ∙ first.discarded there;
         validated = λ start. second.goes.validated start ∙ first.validated start;
+        largest = λ there. second.goes.largest there ∙ first.largest there;
         flight = λ gone. (
             let one = first.flight gone in let two = second.goes.flight gone in omega (arith, one, two));
       };
@@ -409,18 +424,19 @@ module _ {Q S M P : Type 0} where
 
   -- ---- a packet is received
 
-  module _ (size : ℕ) (space : SpaceId) (n : ℕ) (reply : Result Bool SenderError) (ends : Numbers)
+  module _ (now size : ℕ) (space : SpaceId) (n : ℕ) (reply : Result Bool SenderError) (ends : Numbers)
       (past between after : History Q S M P) where
-    pub hears_then_quiet : HearsNumber size space n reply ends past between → GoesOnQuietly between after
-        → HearsNumber size space n reply ends past after
+    pub hears_then_quiet : HearsNumber now size space n reply ends past between → GoesOnQuietly between after
+        → HearsNumber now size space n reply ends past after
     hears_then_quiet first second = record {
-      goes = then_quiet (hearing size space n reply ends) past between after first.goes second;
+      goes = then_quiet (hearing now size space n reply ends) past between after first.goes second;
       by = first.by;
     }
 
     -- its ACK frame ends these
-    pub hears_then_ends : HearsNumber size space n reply no_numbers past between → GoesOn (ending ends) between after
-        → HearsNumber size space n reply ends past after
+    pub hears_then_ends : HearsNumber now size space n reply no_numbers past between → GoesOn (ending ends) between
+        after
+        → HearsNumber now size space n reply ends past after
     hears_then_ends first second = record {
       goes = record {
         given = λ there m is. second.given there m (first.goes.given there m is);
@@ -430,6 +446,7 @@ module _ {Q S M P : Type 0} where
         left = let one = first.goes.left in let two = second.left in omega (arith, one, two);
         discarded = λ there. second.discarded there ∙ first.goes.discarded there;
         validated = λ start. second.validated start ∙ first.goes.validated start;
+        largest = λ there. second.largest there ∙ first.goes.largest there;
         flight = λ gone. (
             let one = first.goes.flight (λ there m. ends there m || gone there m) in
             let two = second.flight gone in omega (arith, one, two));
@@ -447,8 +464,8 @@ module _ {Q S M P : Type 0} where
         heard_first there m was = by_first there m (second.heard there m was)
 
     -- its datagram was received before
-    pub arrives_then_hears : GoesOn (arriving size) past between → HearsNumber 0 space n reply ends between after
-        → HearsNumber size space n reply ends past after
+    pub arrives_then_hears : GoesOn (arriving size) past between → HearsNumber now 0 space n reply ends between after
+        → HearsNumber now size space n reply ends past after
     arrives_then_hears first second = record {
       goes = record {
         given = λ there m is. second.goes.given there m (first.given there m is);
@@ -458,6 +475,8 @@ module _ {Q S M P : Type 0} where
         left = let one = first.left in let two = second.goes.left in omega (arith, one, two);
         discarded = λ there. second.goes.discarded there ∙ first.discarded there;
         validated = λ start. second.goes.validated start ∙ first.validated start;
+        largest = λ there. second.goes.largest there
+            ∙ ap (with_largest there (new_by (space, n) reply) now) (first.largest there);
         flight = λ gone. (
             let one = first.flight (λ there m. ends there m || gone there m) in
             let two = second.goes.flight gone in omega (arith, one, two));
@@ -466,18 +485,18 @@ module _ {Q S M P : Type 0} where
     }
       where
         before : (there : SpaceId) (m : ℕ) → WasReceived there m past ⊎ (quiet.heard ≡ Some (there, m))
-            → WasReceived there m past ⊎ ((hearing size space n reply ends).heard ≡ Some (there, m))
+            → WasReceived there m past ⊎ ((hearing now size space n reply ends).heard ≡ Some (there, m))
         before there m (inl was) = inl was
         before there m (inr never) = absurd cc
 
         by_then : (there : SpaceId) (m : ℕ)
-            → WasReceived there m between ⊎ ((hearing 0 space n reply ends).heard ≡ Some (there, m))
-            → WasReceived there m past ⊎ ((hearing size space n reply ends).heard ≡ Some (there, m))
+            → WasReceived there m between ⊎ ((hearing now 0 space n reply ends).heard ≡ Some (there, m))
+            → WasReceived there m past ⊎ ((hearing now size space n reply ends).heard ≡ Some (there, m))
         by_then there m (inl was) = before there m (first.heard there m was)
         by_then there m (inr here) = inr here
 
         heard : (there : SpaceId) (m : ℕ) → WasReceived there m after
-            → WasReceived there m past ⊎ ((hearing size space n reply ends).heard ≡ Some (there, m))
+            → WasReceived there m past ⊎ ((hearing now size space n reply ends).heard ≡ Some (there, m))
         heard there m was = by_then there m (second.goes.heard there m was)
 
 all_below : (n : ℕ) (came : List ℕ) → list_all (λ m. nat_lt m n) came ≡ true → is_member nat_eq came n ≡ true → ⊥
@@ -515,7 +534,7 @@ heard_refused Q false false new refusal is = absurd is
 
 module _ {Q S M P : Type 0} (past : History Q S M P) (space : SpaceId) (now n : ℕ) (eliciting : Bool) where
   pub hears_event : (arm : Bool) → DetectsDuplicates past (Received space now n eliciting) (Ok (New arm))
-      → HearsNumber 0 space n (Ok true) no_numbers past ((Received space now n eliciting, Ok (New arm)) ∷ past)
+      → HearsNumber now 0 space n (Ok true) no_numbers past ((Received space now n eliciting, Ok (New arm)) ∷ past)
   hears_event arm detects = record {
     goes = record {
       given = λ there m. given_on past there m (Received space now n eliciting) (Ok (New arm));
@@ -525,6 +544,7 @@ module _ {Q S M P : Type 0} (past : History Q S M P) (space : SpaceId) (now n : 
       left = no_less (bytes_transmitted past) (bytes_transmitted past) refl;
       discarded = λ there. refl;
       validated = λ first. refl;
+      largest = λ there. refl;
       flight = flight_event past (Received space now n eliciting) (Ok (New arm)) None no_numbers refl (λ gone. omega
           arith)
           (λ there m leave. absurd (true≢false (sym leave)));
@@ -537,10 +557,15 @@ module _ {Q S M P : Type 0} (past : History Q S M P) (space : SpaceId) (now n : 
   not_received there k (New arm) other was = absurd (other arm refl)
   not_received there k answer other was = was
 
+  not_largest : (there : SpaceId) (answer : Answer Q) → ((arm : Bool) → answer ≡ New arm → ⊥)
+      → largest_came there ((Received space now n eliciting, Ok answer) ∷ past) ≡ largest_came there past
+  not_largest there (New arm) other = absurd (other arm refl)
+  not_largest there answer other = refl
+
   -- a packet that is not new
   pub known_event : (answer : Answer Q) → ((arm : Bool) → answer ≡ New arm → ⊥)
       → DetectsDuplicates past (Received space now n eliciting) (Ok answer)
-      → HearsNumber 0 space n (Ok false) no_numbers past ((Received space now n eliciting, Ok answer) ∷ past)
+      → HearsNumber now 0 space n (Ok false) no_numbers past ((Received space now n eliciting, Ok answer) ∷ past)
   known_event answer other detects = record {
     goes = record {
       given = λ there k. given_on past there k (Received space now n eliciting) (Ok answer);
@@ -550,6 +575,7 @@ module _ {Q S M P : Type 0} (past : History Q S M P) (space : SpaceId) (now n : 
       left = no_less (bytes_transmitted past) (bytes_transmitted past) refl;
       discarded = λ there. refl;
       validated = λ first. refl;
+      largest = λ there. not_largest there answer other;
       flight = flight_event past (Received space now n eliciting) (Ok answer) None no_numbers refl (λ gone. omega arith)
           (λ there m leave. absurd (true≢false (sym leave)));
     };
@@ -559,7 +585,7 @@ module _ {Q S M P : Type 0} (past : History Q S M P) (space : SpaceId) (now n : 
 
   -- a packet that is dropped
   pub dropped_event : (refusal : Refusal) → DetectsDuplicates past (Received space now n eliciting) (Err refusal)
-      → HearsNumber 0 space n (Err (refused.Event refusal)) no_numbers past
+      → HearsNumber now 0 space n (Err (refused.Event refusal)) no_numbers past
       ((Received space now n eliciting, Err refusal) ∷ past)
   dropped_event refusal detects = record {
     goes = record {
@@ -570,6 +596,7 @@ module _ {Q S M P : Type 0} (past : History Q S M P) (space : SpaceId) (now n : 
       left = no_less (bytes_transmitted past) (bytes_transmitted past) refl;
       discarded = λ there. refl;
       validated = λ first. refl;
+      largest = λ there. refl;
       flight = flight_event past (Received space now n eliciting) (Err refusal) None no_numbers refl (λ gone. omega
           arith)
           (λ there m leave. absurd (true≢false (sym leave)));
@@ -592,6 +619,7 @@ module _ {Q S M P : Type 0} (past : History Q S M P) where
         at_most _ _ (sym more);
     discarded = λ space. refl;
     validated = λ first. refl;
+    largest = λ space. refl;
     flight = flight_event past (DatagramIn Current bytes) (Ok answer) None no_numbers refl (λ gone. omega arith)
         (λ there m leave. absurd (true≢false (sym leave)));
   }
@@ -608,6 +636,7 @@ module _ {Q S M P : Type 0} (past : History Q S M P) where
         at_most _ _ (sym more);
     discarded = λ space. refl;
     validated = λ first. refl;
+    largest = λ space. refl;
     flight = flight_event past (Transmit now bytes checked) (Ok Transmitted) None no_numbers refl (λ gone. omega arith)
         (λ there m leave. absurd (true≢false (sym leave)));
   }
@@ -622,6 +651,7 @@ module _ {Q S M P : Type 0} (past : History Q S M P) where
     left = no_less (bytes_transmitted past) (bytes_transmitted past) refl;
     discarded = λ space. refl;
     validated = λ first. refl;
+    largest = λ space. refl;
     flight = flight_event past (Transmit now bytes checked) (Ok (Delayed until)) None no_numbers refl (λ gone. omega
         arith)
         (λ there m leave. absurd (true≢false (sym leave)));
@@ -637,6 +667,7 @@ module _ {Q S M P : Type 0} (past : History Q S M P) where
     left = no_less (bytes_transmitted past) (bytes_transmitted past) refl;
     discarded = λ there. refl;
     validated = λ first. refl;
+    largest = λ there. refl;
     flight = flight_event past (DiscardSpace space) (Ok answer) None (λ there n. same_space space there) refl (λ gone.
         omega arith)
         (λ there m leave. inl leave);
@@ -651,6 +682,7 @@ module _ {Q S M P : Type 0} (past : History Q S M P) where
     left = no_less (bytes_transmitted past) (bytes_transmitted past) refl;
     discarded = λ there. refl;
     validated = λ first. refl;
+    largest = λ space. refl;
     flight = flight_event past (Validated Current) (Ok answer) None no_numbers refl (λ gone. omega arith)
         (λ there m leave. absurd (true≢false (sym leave)));
   }

@@ -4,6 +4,7 @@ pub mod FlightRows
 pub mod FrameLaws
 pub mod GoingLaws
 pub mod HonestLaws
+pub mod LargestLaws
 pub mod LogLaws
 pub mod NewLaws
 pub mod PacketLaws

@@ -17,7 +17,8 @@ use Rattle.recovery_pair.specs.declared.steps.PairStep.{PairStep}
 use Rattle.recovery_pair.specs.declared.steps.PairStep.TheVariants.{Arrive, Local, Send}
 use Rattle.recovery_pair.specs.Logs.{PairEvent, PairLog, bytes_arrived, bytes_sent, has_validated, numbers_at, other_end, was_discarded}
 use Rattle.recovery_pair.specs.Flights.{Numbers, counted_if, ends_by_fate, flight_of}
-use Rattle.recovery_pair.specs.Pasts.{GoesOn, EndTurn, added, hearing, is_of, packet_leaving, quiet, with_number}
+use Rattle.recovery_pair.specs.Pasts.{GoesOn, EndTurn, added, hearing, is_of, new_by, packet_leaving, quiet, with_largest, with_number}
+use Rattle.recovery_pair.specs.Promises.Delays.{largest_new}
 use Rattle.recovery_pair.specs.Tied.{IsLogged, validated_first}
 use Rattle.recovery_pair.specs.Turns.{local_turn, reply_of}
 use Rattle.recovery_pair.proofs.GoingLaws.{at_most, no_less, no_more}
@@ -36,6 +37,8 @@ pub record Adds (turn : EndTurn) (end : End) (event : PairEvent) (log : PairLog)
       ≡ (turn.validates || has_validated end first log)
   pub arrived : turn.arrives + bytes_arrived end log ≤ bytes_arrived end (event ∷ log)
   pub left : bytes_sent end (event ∷ log) ≤ turn.leaves + bytes_sent end log
+  pub largest : (space : SpaceId) → largest_new end space (event ∷ log)
+      ≡ with_largest space turn.heard turn.at (largest_new end space log)
   pub flight : (gone : Numbers) → all_flight end gone (event ∷ log)
       ≤ added turn.counts gone + all_flight end (λ space n. turn.ends space n || gone space n) log
 
@@ -52,6 +55,8 @@ logged_on validated log event end first turn past after adds goes logged = recor
   arrived = let one = goes.arrived in let two = adds.arrived in let old = logged.arrived in
       omega (arith, one, two, old);
   left = let one = goes.left in let two = adds.left in let old = logged.left in omega (arith, one, two, old);
+  largest = λ space. goes.largest space ∙ ap (with_largest space turn.heard turn.at) (logged.largest space)
+      ∙ sym (adds.largest space);
   flight = λ gone. (
       let one = goes.flight gone in
       let two = adds.flight gone in
@@ -64,7 +69,8 @@ none_counted rest = omega arith
 
 -- ---- a packet is sent
 
-module _ (log : PairLog) (there : SpaceId) (now size n : ℕ) (items : Vec ℕ) (eliciting : Bool) (window : Option ℕ) where
+module _ (log : PairLog) (there : SpaceId) (now size n : ℕ) (items : Vec ℕ) (eliciting : Bool) (window : Option ℕ)
+    (delay : ℕ) where
   counted_here : (is_gone elicits : Bool) (rest : ℕ)
       → (if is_gone then 0 else counted_if elicits size) + rest ≤ (if is_gone then 0 else counted_if elicits size) +
       rest
@@ -73,7 +79,7 @@ module _ (log : PairLog) (there : SpaceId) (now size n : ℕ) (items : Vec ℕ) 
   pub sending_adds : (end : End) → Adds (packet_leaving size (counted_if eliciting size) there n) end (
     Send end there
         now size,
-    Ok (Sent n items eliciting window),
+    Ok (Sent n items eliciting window delay),
   ) log
   sending_adds Client = record {
     came = λ space. refl;
@@ -81,6 +87,7 @@ module _ (log : PairLog) (there : SpaceId) (now size n : ℕ) (items : Vec ℕ) 
     validated = λ first. refl;
     arrived = no_less (bytes_arrived Client log) (bytes_arrived Client log) refl;
     left = at_most (size + bytes_sent Client log) (size + bytes_sent Client log) refl;
+    largest = λ space. refl;
     flight = λ gone. counted_here (gone there n) eliciting (all_flight Client gone log);
   }
   sending_adds Server = record {
@@ -89,13 +96,14 @@ module _ (log : PairLog) (there : SpaceId) (now size n : ℕ) (items : Vec ℕ) 
     validated = λ first. refl;
     arrived = no_less (bytes_arrived Server log) (bytes_arrived Server log) refl;
     left = at_most (size + bytes_sent Server log) (size + bytes_sent Server log) refl;
+    largest = λ space. refl;
     flight = λ gone. counted_here (gone there n) eliciting (all_flight Server gone log);
   }
 
   pub sending_adds_not : (end : End) → Adds quiet (other_end end) (
     Send end there now size,
     Ok (Sent n items eliciting
-        window),
+        window delay),
   ) log
   sending_adds_not Client = record {
     came = λ space. refl;
@@ -103,6 +111,7 @@ module _ (log : PairLog) (there : SpaceId) (now size n : ℕ) (items : Vec ℕ) 
     validated = λ first. refl;
     arrived = no_less (bytes_arrived Server log) (bytes_arrived Server log) refl;
     left = no_more (bytes_sent Server log) (bytes_sent Server log) refl;
+    largest = λ space. refl;
     flight = λ gone. none_counted (all_flight Server gone log);
   }
   sending_adds_not Server = record {
@@ -111,6 +120,7 @@ module _ (log : PairLog) (there : SpaceId) (now size n : ℕ) (items : Vec ℕ) 
     validated = λ first. refl;
     arrived = no_less (bytes_arrived Client log) (bytes_arrived Client log) refl;
     left = no_more (bytes_sent Client log) (bytes_sent Client log) refl;
+    largest = λ space. refl;
     flight = λ gone. none_counted (all_flight Client gone log);
   }
 
@@ -121,7 +131,7 @@ module _ (log : PairLog) (at now : ℕ) (there : SpaceId) (n size : ℕ) where
   arrival to fate = (Arrive at now, Ok (Arrived to there n size fate))
 
   came_here : (to : End) (fate : Fate) (space : SpaceId) → numbers_at to space (arrival to fate ∷ log)
-      ≡ with_number space (hearing size there n (reply_of fate) (ends_by_fate there fate)).came (numbers_at to space
+      ≡ with_number space (hearing now size there n (reply_of fate) (ends_by_fate there fate)).came (numbers_at to space
       log)
   came_here Client (New items acked) space = refl
   came_here Client Duplicate space = refl
@@ -148,6 +158,24 @@ module _ (log : PairLog) (at now : ℕ) (there : SpaceId) (n size : ℕ) where
   arrived_there Client fate = no_less (bytes_arrived Server log) (bytes_arrived Server log) refl
   arrived_there Server fate = no_less (bytes_arrived Client log) (bytes_arrived Client log) refl
 
+  largest_here : (to : End) (fate : Fate) (space : SpaceId) → largest_new to space (arrival to fate ∷ log)
+      ≡ with_largest space (new_by (there, n) (reply_of fate)) now (largest_new to space log)
+  largest_here Client (New items acked) space = refl
+  largest_here Client Duplicate space = refl
+  largest_here Client (Dropped refusal) space = refl
+  largest_here Server (New items acked) space = refl
+  largest_here Server Duplicate space = refl
+  largest_here Server (Dropped refusal) space = refl
+
+  largest_there : (to : End) (fate : Fate) (space : SpaceId)
+      → largest_new (other_end to) space (arrival to fate ∷ log) ≡ largest_new (other_end to) space log
+  largest_there Client (New items acked) space = refl
+  largest_there Client Duplicate space = refl
+  largest_there Client (Dropped refusal) space = refl
+  largest_there Server (New items acked) space = refl
+  largest_there Server Duplicate space = refl
+  largest_there Server (Dropped refusal) space = refl
+
   ended_here : (to : End) (fate : Fate) (gone : Numbers) → all_flight to gone (arrival to fate ∷ log)
       ≤ 0 + all_flight to (λ space m. ends_by_fate there fate space m || gone space m) log
   ended_here Client fate gone = no_more _ (all_flight Client (λ space m. ends_by_fate there fate space m || gone space
@@ -163,13 +191,14 @@ module _ (log : PairLog) (at now : ℕ) (there : SpaceId) (n size : ℕ) where
   ended_there Server fate gone = no_more _ (all_flight Client gone log) refl
 
   pub arriving_adds : (to : End) (fate : Fate)
-      → Adds (hearing size there n (reply_of fate) (ends_by_fate there fate)) to (arrival to fate) log
+      → Adds (hearing now size there n (reply_of fate) (ends_by_fate there fate)) to (arrival to fate) log
   arriving_adds to fate = record {
     came = came_here to fate;
     discarded = λ space. refl;
     validated = λ first. refl;
     arrived = arrived_here to fate;
     left = no_more (bytes_sent to log) (bytes_sent to log) refl;
+    largest = largest_here to fate;
     flight = ended_here to fate;
   }
 
@@ -180,13 +209,14 @@ module _ (log : PairLog) (at now : ℕ) (there : SpaceId) (n size : ℕ) where
     validated = λ first. refl;
     arrived = arrived_there to fate;
     left = no_more (bytes_sent (other_end to) log) (bytes_sent (other_end to) log) refl;
+    largest = largest_there to fate;
     flight = ended_there to fate;
   }
 
 -- ---- steps that report no packet
 
 abbrev pub IsNoPacket : PairEvent → Type 0
-IsNoPacket (step, Ok (Sent number items eliciting window)) = ⊥
+IsNoPacket (step, Ok (Sent number items eliciting window delay)) = ⊥
 IsNoPacket (step, Ok (Arrived to space number size fate)) = ⊥
 IsNoPacket event = Unit {0}
 
@@ -205,13 +235,18 @@ module _ (log : PairLog) (end : End) where
   none_arrived event none = refl
 
   none_left : (event : PairEvent) → IsNoPacket event → bytes_sent end (event ∷ log) ≡ bytes_sent end log
-  none_left (Send from there now size, Ok (Sent number items eliciting window)) none = absurd none
+  none_left (Send from there now size, Ok (Sent number items eliciting window delay)) none = absurd none
   none_left event none = refl
+
+  no_largest : (step : PairStep) (answer : Result PairAnswer SenderError) → IsNoPacket (step, answer)
+      → (space : SpaceId) → largest_new end space ((step, answer) ∷ log) ≡ largest_new end space log
+  no_largest (Arrive at now) (Ok (Arrived to there number size fate)) none space = absurd none
+  no_largest step answer none space = refl
 
   none_ended : (step : PairStep) (answer : Result PairAnswer SenderError) → IsNoPacket (step, answer)
       → IsNotLocal step → (gone : Numbers) → all_flight end gone ((step, answer) ∷ log) ≡ all_flight end gone log
   none_ended (Local at step) answer none other gone = absurd other
-  none_ended (Send from there now size) (Ok (Sent number items eliciting window)) none other gone = absurd none
+  none_ended (Send from there now size) (Ok (Sent number items eliciting window delay)) none other gone = absurd none
   none_ended (Arrive at now) (Ok (Arrived to there number size fate)) none other gone = absurd none
   none_ended step answer none other gone = refl
 
@@ -233,6 +268,7 @@ module _ (log : PairLog) (end : End) where
     validated = no_validation step answer other;
     arrived = no_less _ _ (none_arrived (step, answer) none);
     left = no_more _ _ (none_left (step, answer) none);
+    largest = no_largest step answer none;
     flight = λ gone. no_more _ _ (none_ended step answer none other gone);
   }
 
@@ -346,6 +382,11 @@ module _ (log : PairLog) where
   added_none : (counts : Option (SpaceId × ℕ × ℕ)) (gone : Numbers) → counts ≡ None → added counts gone ≡ 0
   added_none counts gone none = subst (λ (one : Option (SpaceId × ℕ × ℕ)). added one gone ≡ 0) (sym none) refl
 
+  none_heard : (space : SpaceId) (number : Option (SpaceId × ℕ)) (now : ℕ) (before : Option (ℕ × ℕ)) → number ≡ None
+      → with_largest space number now before ≡ before
+  none_heard space number now before none =
+      subst (λ (one : Option (SpaceId × ℕ)). with_largest space one now before ≡ before) (sym none) refl
+
   with_none : (space : SpaceId) (number : Option (SpaceId × ℕ)) (before : List ℕ) → number ≡ None
       → with_number space number before ≡ before
   with_none space number before none =
@@ -364,6 +405,9 @@ module _ (log : PairLog) where
             omega (arith, is, same);
         left = let is = moves.leaves in let same = none_left log end (Local end step, answer) none in
             omega (arith, is, same);
+        largest = λ space. no_largest log end (Local end step) answer none space
+            ∙ sym (none_heard space (local_turn step answer).heard (local_turn step answer).at
+            (largest_new end space log) moves.heard);
         flight = λ gone. (
             let none_added = added_none (local_turn step answer).counts gone moves.counts in
             let same = ends_here end step answer none gone in omega (arith, none_added, same));
@@ -377,5 +421,6 @@ module _ (log : PairLog) where
     validated = validates_there end step answer;
     arrived = no_less _ _ (none_arrived log (other_end end) (Local end step, answer) none);
     left = no_more _ _ (none_left log (other_end end) (Local end step, answer) none);
+    largest = no_largest log (other_end end) (Local end step) answer none;
     flight = λ gone. no_more _ _ (ends_there end step answer none gone);
   }

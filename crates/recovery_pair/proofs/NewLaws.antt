@@ -44,6 +44,7 @@ new_logged validated end first past same goes = record {
   address = goes.validated first ∙ same;
   arrived = goes.arrived;
   left = goes.left;
+  largest = goes.largest;
   flight = λ gone. omega arith;
 }
 

@@ -92,25 +92,25 @@ module _ {F Q R C K S M P : Type 0} {f : _} {c : _} {q : _} {m : _} {r : _} wher
   hears_by_call : (space : SpaceId) (now n : ℕ) (eliciting arm : Bool) (kept : Variables)
       (old new : Sender F Q R C K S M P f c q m r)
       → CompletesCall (told (Received space now n eliciting) (Ok (New arm)) ∷ []) kept old new
-      → Continues (HearsNumber 0 space n (Ok true) no_numbers) old new
+      → Continues (HearsNumber now 0 space n (Ok true) no_numbers) old new
   hears_by_call space now n eliciting arm kept old new does =
-      call_goes (Received space now n eliciting) (Ok (New arm)) (HearsNumber 0 space n (Ok true) no_numbers)
-      (hears_then_quiet 0 space n (Ok true) no_numbers) kept old new does
+      call_goes (Received space now n eliciting) (Ok (New arm)) (HearsNumber now 0 space n (Ok true) no_numbers)
+      (hears_then_quiet now 0 space n (Ok true) no_numbers) kept old new does
       (λ config start random past keeps. hears_event past space now n eliciting arm keeps.new)
 
   known_by_call : (space : SpaceId) (now n : ℕ) (eliciting : Bool) (answer : Answer Q) (kept : Variables)
       (old new : Sender F Q R C K S M P f c q m r) → ((arm : Bool) → answer ≡ New arm → ⊥)
       → CompletesCall (told (Received space now n eliciting) (Ok answer) ∷ []) kept old new
-      → Continues (HearsNumber 0 space n (Ok false) no_numbers) old new
+      → Continues (HearsNumber now 0 space n (Ok false) no_numbers) old new
   known_by_call space now n eliciting answer kept old new other does =
-      call_goes (Received space now n eliciting) (Ok answer) (HearsNumber 0 space n (Ok false) no_numbers)
-      (hears_then_quiet 0 space n (Ok false) no_numbers) kept old new does
+      call_goes (Received space now n eliciting) (Ok answer) (HearsNumber now 0 space n (Ok false) no_numbers)
+      (hears_then_quiet now 0 space n (Ok false) no_numbers) kept old new does
       (λ config start random past keeps. known_event past space now n eliciting answer other keeps.new)
 
   pub heard_by_call : (space : SpaceId) (now n : ℕ) (eliciting : Bool) (answer : Answer Q) (kept : Variables)
       (old new : Sender F Q R C K S M P f c q m r)
       → CompletesCall (told (Received space now n eliciting) (Ok answer) ∷ []) kept old new
-      → Continues (HearsNumber 0 space n (heard_of (Ok (arm_told answer))) no_numbers) old new
+      → Continues (HearsNumber now 0 space n (heard_of (Ok (arm_told answer))) no_numbers) old new
   heard_by_call space now n eliciting (New arm) kept old new does =
       hears_by_call space now n eliciting arm kept old new does
   heard_by_call space now n eliciting answer kept old new does =
@@ -118,11 +118,11 @@ module _ {F Q R C K S M P : Type 0} {f : _} {c : _} {q : _} {m : _} {r : _} wher
 
   pub dropped_by_call : (space : SpaceId) (now n : ℕ) (eliciting : Bool) (refusal : SenderError)
       (old new : Sender F Q R C K S M P f c q m r) → EventResult (Received space now n eliciting) old new (Err refusal)
-      → Continues (HearsNumber 0 space n (Err refusal) no_numbers) old new
+      → Continues (HearsNumber now 0 space n (Err refusal) no_numbers) old new
   dropped_by_call space now n eliciting (refused.Event refusal) old new takes =
-      steps_go (Received space now n eliciting) (Err refusal) (HearsNumber 0 space n (Err (refused.Event refusal))
+      steps_go (Received space now n eliciting) (Err refusal) (HearsNumber now 0 space n (Err (refused.Event refusal))
       no_numbers)
-      (hears_then_quiet 0 space n (Err (refused.Event refusal)) no_numbers) old new takes
+      (hears_then_quiet now 0 space n (Err (refused.Event refusal)) no_numbers) old new takes
       (λ config start random past keeps. dropped_event past space now n eliciting refusal keeps.new)
   dropped_by_call space now n eliciting refused.Unsent old new never = absurd never
 

@@ -106,6 +106,7 @@ step_keeps client server client_after server_after wire wire_after client_waits 
         arrives = one.0.arrives;
         limited = one.0.limited;
         window = one.0.window;
+        delay = one.0.delay;
         flight = one.0.flight;
         sends = two.0;
         local = local;
@@ -115,14 +116,16 @@ step_keeps client server client_after server_after wire wire_after client_waits 
 
 -- ---- a packet is sent
 
-module _ (log : PairLog) (space : SpaceId) (now size n : ℕ) (items : Vec ℕ) (eliciting : Bool) (window : Option ℕ) where
+module _ (log : PairLog) (space : SpaceId) (now size n : ℕ) (items : Vec ℕ) (eliciting : Bool) (window : Option ℕ)
+    (delay : ℕ) where
   sent_here : (end : End) (measure : List ℕ → ℕ) (there : SpaceId)
-      → sent_in end measure there ((Send end space now size, Ok (Sent n items eliciting window)) ∷ log)
+      → sent_in end measure there ((Send end space now size, Ok (Sent n items eliciting window delay)) ∷ log)
       ≡ part (same_space space there) (measure items.items) + sent_in end measure there log
   sent_here Client measure there = refl
   sent_here Server measure there = refl
 
-  sent_not : (end : End) → LeavesQueue (Send end space now size, Ok (Sent n items eliciting window)) log (other_end end)
+  sent_not : (end : End) → LeavesQueue (Send end space now size, Ok (Sent n items eliciting window delay)) log
+      (other_end end)
   sent_not Client = record {
     handed_same = λ measure there. refl;
     sent_same = λ measure there. nothing_more (sent_in Server measure there log);
@@ -133,23 +136,24 @@ module _ (log : PairLog) (space : SpaceId) (now size n : ℕ) (items : Vec ℕ) 
   }
 
 pub sent_queue : (end : End) (space : SpaceId) (now size n : ℕ) (items : Vec ℕ) (eliciting : Bool)
-    (window : Option ℕ)
+    (window : Option ℕ) (delay : ℕ)
     (client server client_after server_after : List Waiting)
     → TurnsAt end (λ (old new : List Waiting). LosesOne old new space items.items) client server client_after
     server_after
-    → QueueKept client server (Send end space now size) (Ok (Sent n items eliciting window)) client_after server_after
-sent_queue end space now size n items eliciting window =
+    → QueueKept client server (Send end space now size) (Ok (Sent n items eliciting window delay)) client_after
+    server_after
+sent_queue end space now size n items eliciting window delay =
     queue_turn end (λ (old new : List Waiting). LosesOne old new space items.items) (Send end space now size) (Ok (Sent
     n items
-    eliciting window))
-    here (λ log. sent_not log space now size n items eliciting window end)
+    eliciting window delay))
+    here (λ log. sent_not log space now size n items eliciting window delay end)
   where
     here : (old new : List Waiting) → LosesOne old new space items.items
-        → QueueKeptAt end (Send end space now size) (Ok (Sent n items eliciting window)) old new
+        → QueueKeptAt end (Send end space now size) (Ok (Sent n items eliciting window delay)) old new
     here old new loses log queued = (
       tt,
       λ measure there. subst (λ (sent : ℕ). handed end measure there log ≤ waiting_in measure there new + sent)
-          (sym (sent_here log space now size n items eliciting window end measure there))
+          (sym (sent_here log space now size n items eliciting window delay end measure there))
           (more_both (part (same_space space there) (measure items.items)) (handed end measure there log)
           (waiting_in measure there old) (sent_in end measure there log) (waiting_in measure there new)
           (queued measure there) (loses measure there)),
@@ -226,7 +230,7 @@ module _ (log : PairLog) where
 
   local_sends : (end : End) (step : LocalStep) (answer : Result PairAnswer SenderError)
       → IsNoPacket (Local end step, answer) → SendsWhatWaits log (Local end step, answer)
-  local_sends end step (Ok (Sent number items eliciting window)) none = absurd none
+  local_sends end step (Ok (Sent number items eliciting window delay)) none = absurd none
   local_sends end step answer none = tt
 
   local_here : (end : End) (step : LocalStep) (answer : Result PairAnswer SenderError) (old new : List Waiting)

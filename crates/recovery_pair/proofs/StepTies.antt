@@ -5,6 +5,7 @@ use Rattle.std.specs.Global.{Vec}
 use Rattle.std.specs.List.{AllByRecursion}
 use Rattle.std.proofs.lemmas.Bool.Decides.{nat_tests}
 use Rattle.std.proofs.lemmas.List.{get_or-map, length-map}
+use Rattle.recovery_acks.specs.Acks.{delay_at}
 use Rattle.recovery_base.specs.declared.below.SpaceId.{SpaceId}
 use Rattle.recovery_base.specs.Units.{number_limit}
 use Rattle.recovery_events.specs.declared.event.Refusal.TheVariants.{NoMemory, NumberTooLarge, SpaceDiscarded}
@@ -39,6 +40,7 @@ use Rattle.recovery_pair.specs.Promises.Arrivals.{ArrivesAsSent, Delivers, IsArr
 use Rattle.recovery_pair.specs.Promises.DeliveredOnce.{AcksDelivered}
 use Rattle.recovery_pair.specs.Promises.Locals.{IsLocalAnswer}
 use Rattle.recovery_pair.specs.Promises.NeverAccused.{NeverAccuses}
+use Rattle.recovery_pair.specs.Promises.Delays.{ReportsDelay}
 use Rattle.recovery_pair.specs.Promises.Excess.{ExceedsByProbes}
 use Rattle.recovery_pair.specs.Promises.Threefold.{ServerSendsThreefold}
 use Rattle.recovery_pair.specs.Promises.Window.{SendsWithinWindow}
@@ -46,6 +48,7 @@ use Rattle.recovery_pair.specs.Tied.{Flows, HasPast, IsLogged, IsOnWire, IsTiedA
 use Rattle.recovery_pair.specs.Turns.{HearTurn, HearsPacket, SendsPacket, TurnsAt, local_turn, reply_of}
 use Rattle.recovery_pair.proofs.BoundLaws.{exceeds_by, within_on}
 use Rattle.recovery_pair.proofs.FlightLaws.{flight_counted}
+use Rattle.recovery_pair.proofs.LargestLaws.{largest_by}
 use Rattle.recovery_pair.proofs.GoingLaws.{quiet_none}
 use Rattle.recovery_pair.proofs.LogLaws.{Adds, IsNoPacket, IsNotLocal, arriving_adds, arriving_adds_not, idle_adds, local_adds, local_adds_not, local_moves, logged_on, sending_adds, sending_adds_not}
 use Rattle.recovery_pair.proofs.QuietLaws.{same_quietly}
@@ -70,6 +73,7 @@ pub record KeepsExchange (validated : Bool) (log : PairLog) (event : PairEvent) 
   pub arrives : ArrivesAsSent log event
   pub limited : ServerSendsThreefold validated (event ∷ log)
   pub window : SendsWithinWindow log event
+  pub delay : ReportsDelay log event
   pub flight : ExceedsByProbes (event ∷ log)
 
 -- ---- one end makes a step, the other does nothing
@@ -148,13 +152,14 @@ module _ {F Q R C K S M P : Type 0} {f : _} {c : _} {q : _} {m : _} {r : _} (val
 -- ---- steps by which nothing is sent, and nothing new arrives
 
 abbrev pub IsSilent : PairEvent → Type 0
-IsSilent (step, Ok (Sent number items eliciting window)) = ⊥
+IsSilent (step, Ok (Sent number items eliciting window delay)) = ⊥
 IsSilent (step, Ok (Arrived to space number size (New items acked))) = ⊥
 IsSilent event = Unit {0}
 
 silent_sends : (event : PairEvent) → IsSilent event → (log : PairLog) (end : End) (space : SpaceId) (n : ℕ)
     → sends_of end space n (event ∷ log) ≡ sends_of end space n log
-silent_sends (Send from there now size, Ok (Sent number items eliciting window)) silent log end space n = absurd silent
+silent_sends (Send from there now size, Ok (Sent number items eliciting window delay)) silent log end space n = absurd
+    silent
 silent_sends event silent log end space n = refl
 
 silent_takes : (event : PairEvent) → IsSilent event → (log : PairLog) (end : End) (space : SpaceId) (n : ℕ)
@@ -163,7 +168,7 @@ silent_takes (step, Ok (Arrived to there number size (New items acked))) silent 
 silent_takes event silent log end space n = refl
 
 silent_wire : (event : PairEvent) → IsSilent event → (log : PairLog) → wire_of (event ∷ log) ≡ wire_of log
-silent_wire (Send from there now size, Ok (Sent number items eliciting window)) silent log = absurd silent
+silent_wire (Send from there now size, Ok (Sent number items eliciting window delay)) silent log = absurd silent
 silent_wire event silent log = refl
 
 silent_honest : (event : PairEvent) → IsSilent event → NeverAccuses event
@@ -171,8 +176,13 @@ silent_honest (step, Ok (Arrived to there number size (New items acked))) silent
 silent_honest event silent = tt
 
 silent_window : (log : PairLog) (event : PairEvent) → IsSilent event → SendsWithinWindow log event
-silent_window log (Send from there now size, Ok (Sent number items eliciting (Some window))) silent = absurd silent
+silent_window log (Send from there now size, Ok (Sent number items eliciting (Some window) delay)) silent = absurd
+    silent
 silent_window log event silent = tt
+
+silent_delay : (log : PairLog) (event : PairEvent) → IsSilent event → ReportsDelay log event
+silent_delay log (Send from there now size, Ok (Sent number items eliciting window delay)) silent = absurd silent
+silent_delay log event silent = tt
 
 silent_delivers : (log : PairLog) (event : PairEvent) → IsSilent event → AcksDelivered log event
 silent_delivers log (step, Ok (Arrived to there number size (New items acked))) silent = absurd silent
@@ -237,6 +247,7 @@ module _ {F Q R C K S M P : Type 0} {f : _} {c : _} {q : _} {m : _} {r : _} (end
       arrives = arrives;
       limited = threefold_at validated ((step, answer) ∷ log) end after there wire tied_still;
       window = silent_window log (step, answer) silent;
+      delay = silent_delay log (step, answer) silent;
       flight = exceeds_by ((step, answer) ∷ log) tied_still.within;
     },
     tied_still,
@@ -267,17 +278,19 @@ module _ {Q S M P : Type 0} (log : PairLog) (now size : ℕ) (end : End) (past a
     (flows : Flows log end past peer) (back : Flows log (other_end end) peer past)
     (wired : AllByRecursion (IsOnWire log) wire) where
   abbrev sent_log : PairLog
-  sent_log = sending log packet.space now size packet.number items packet.eliciting window end ∷ log
+  sent_log = sending log packet.space now size packet.number items packet.eliciting window packet.delay end ∷ log
 
   out_sent : Flows sent_log end after peer
-  out_sent = flows_sent log packet.space now size packet.number items packet.eliciting window end past after peer
+  out_sent = flows_sent log packet.space now size packet.number items packet.eliciting window packet.delay end past
+      after peer
       (counted_if packet.eliciting size)
       sends.sends flows
 
   back_sent : Flows sent_log (other_end end) peer after
   back_sent = flows_kept log sent_log (other_end end)
       (packet_leaving size (counted_if packet.eliciting size) packet.space packet.number) peer peer past after
-      (other_sends log packet.space now size packet.number items packet.eliciting window end) (λ space n. refl) (λ
+      (other_sends log packet.space now size packet.number items packet.eliciting window packet.delay end) (λ space n.
+      refl) (λ
       space n given. given) refl
       sends.sends.goes back
 
@@ -285,13 +298,14 @@ module _ {Q S M P : Type 0} (log : PairLog) (now size : ℕ) (end : End) (past a
       → sends_of from space n log ≡ before ∷ [] → sends_of from space n sent_log ≡ before ∷ []
   still_by from space n before (inl same) once =
       subst (λ (e : End). sends_of e space n sent_log ≡ before ∷ []) (sym same)
-      (sends_kept log packet.space now size packet.number items packet.eliciting window end past after peer (counted_if
+      (sends_kept log packet.space now size packet.number items packet.eliciting window packet.delay end past after
+      peer (counted_if
       packet.eliciting size)
       sends.sends flows space n before
       (subst (λ (e : End). sends_of e space n log ≡ before ∷ []) same once))
   still_by from space n before (inr same) once =
       subst (λ (e : End). sends_of e space n sent_log ≡ before ∷ []) (sym same)
-      (other_sends log packet.space now size packet.number items packet.eliciting window end space n
+      (other_sends log packet.space now size packet.number items packet.eliciting window packet.delay end space n
       ∙ subst (λ (e : End). sends_of e space n log ≡ before ∷ []) same once)
 
   on_still : (one : WirePacket) → IsOnWire log one → IsOnWire sent_log one
@@ -310,7 +324,8 @@ module _ {Q S M P : Type 0} (log : PairLog) (now size : ℕ) (end : End) (past a
   last_on : IsOnWire sent_log packet
   last_on = record {
     sent = subst (λ (e : End). sends_of e packet.space packet.number sent_log ≡ packet.items.items ∷ []) (sym sender)
-        (sent_once log packet.space now size packet.number items packet.eliciting window end past after peer
+        (sent_once log packet.space now size packet.number items packet.eliciting window packet.delay end past after
+        peer
         (counted_if packet.eliciting size)
         sends.sends flows
         ∙ ap (λ (all : List ℕ). all ∷ []) told);
@@ -329,11 +344,19 @@ added_fits logged known counted size room one two three = omega (arith, one, two
 module _ {F Q R C K S M P : Type 0} {f : _} {c : _} {q : _} {m : _} {r : _} (end : End) (now size : ℕ)
     (packet : WirePacket) (items : Vec ℕ) (window : Option ℕ) (wire : List WirePacket)
     (here there after : Sender F Q R C K S M P f c q m r)
-    (is : SendsPacket here after end packet.space size packet items window) (validated : Bool) (log : PairLog)
+    (is : SendsPacket here after end packet.space now size packet items window) (validated : Bool) (log : PairLog)
     (tied : IsTiedAt validated end log here there wire) where
+  -- its delay is since the largest packet was received, by the log
+  waited_by : ReportsDelay log
+      (Send end packet.space now size, Ok (Sent packet.number items packet.eliciting window packet.delay))
+  waited_by = is.waited
+      ∙ ap (delay_at now) (largest_by (begins f.built c.words (queue_model q.contents q.words q.blank) tied.own.config
+      tied.own.start tied.own.random) tied.own.past (state_in here) tied.own.came packet.space
+      ∙ tied.logged.largest packet.space)
+
   -- it fits into the window that is checked, by the log
   fits_by : (checked : Option ℕ) → FitsChecked here size checked → SendsWithinWindow log
-      (Send end packet.space now size, Ok (Sent packet.number items packet.eliciting checked))
+      (Send end packet.space now size, Ok (Sent packet.number items packet.eliciting checked packet.delay))
   fits_by None fits = tt
   fits_by (Some room) fits =
       let known = tied.logged.flight no_numbers in
@@ -341,12 +364,14 @@ module _ {F Q R C K S M P : Type 0} {f : _} {c : _} {q : _} {m : _} {r : _} (end
       tied.own.start tied.own.random) tied.own.past (state_in here) tied.own.came in
       added_fits _ _ _ size room known counted fits
 
-  tied_sent : IsTiedAt validated end (sending log packet.space now size packet.number items packet.eliciting window end
+  tied_sent : IsTiedAt validated end (sending log packet.space now size packet.number items packet.eliciting window
+      packet.delay end
       ∷ log) after there
       (wire ++ packet ∷ [])
   tied_sent =
       let own = is.goes.from tied.own.config tied.own.start tied.own.random tied.own.past tied.own.came in
-      let event : PairEvent = sending log packet.space now size packet.number items packet.eliciting window end in
+      let event : PairEvent = sending log packet.space now size packet.number items packet.eliciting window
+      packet.delay end in
       record {
         own = record {
           config = tied.own.config;
@@ -363,10 +388,12 @@ module _ {F Q R C K S M P : Type 0} {f : _} {c : _} {q : _} {m : _} {r : _} (end
             is.sound own.2 tied.out tied.back tied.wired;
         logged = logged_on validated log event end tied.own.config.validated
             (packet_leaving size (counted_if packet.eliciting size) packet.space packet.number) tied.own.past own.0
-            (sending_adds log packet.space now size packet.number items packet.eliciting window end) own.2.sends.goes
+            (sending_adds log packet.space now size packet.number items packet.eliciting window packet.delay end)
+            own.2.sends.goes
             tied.logged;
         peer_logged = logged_on validated log event (other_end end) tied.peer.config.validated quiet tied.peer.past
-            tied.peer.past (sending_adds_not log packet.space now size packet.number items packet.eliciting window end)
+            tied.peer.past (sending_adds_not log packet.space now size packet.number items packet.eliciting window
+            packet.delay end)
             (quiet_none tied.peer.past) tied.peer_logged;
         listed = ap (λ (sent : List LoggedPacket). sent ++ record {
           from = end;
@@ -384,8 +411,9 @@ module _ {F Q R C K S M P : Type 0} {f : _} {c : _} {q : _} {m : _} {r : _} (end
       }
 
   sent_step : KeepsExchange validated log (sending log packet.space now size packet.number items packet.eliciting
-      window end)
-      × IsTiedAt validated end (sending log packet.space now size packet.number items packet.eliciting window end ∷
+      window packet.delay end)
+      × IsTiedAt validated end (sending log packet.space now size packet.number items packet.eliciting window
+      packet.delay end ∷
       log) after there
       (wire ++ packet ∷ [])
   sent_step = (
@@ -394,10 +422,13 @@ module _ {F Q R C K S M P : Type 0} {f : _} {c : _} {q : _} {m : _} {r : _} (end
       delivered = tt;
       arrives = tt;
       limited = threefold_at validated (sending log packet.space now size packet.number items packet.eliciting window
+          packet.delay
           end ∷ log) end after
           there (wire ++ packet ∷ []) tied_sent;
       window = fits_by window is.fits;
-      flight = exceeds_by (sending log packet.space now size packet.number items packet.eliciting window end ∷ log)
+      delay = waited_by;
+      flight = exceeds_by (sending log packet.space now size packet.number items packet.eliciting window packet.delay
+          end ∷ log)
           tied_sent.within;
     },
     tied_sent,
@@ -407,13 +438,14 @@ module _ {F Q R C K S M P : Type 0} {f : _} {c : _} {q : _} {m : _} {r : _} wher
   sends_at : (end : End) (space : SpaceId) (now size : ℕ) (packet : WirePacket) (items : Vec ℕ) (window : Option ℕ)
       (wire : List WirePacket)
       (here there after : Sender F Q R C K S M P f c q m r) → packet.space ≡ space
-      → SendsPacket here after end space size packet items window
+      → SendsPacket here after end space now size packet items window
       → StepKeepsAt end here there wire (Send end space now size) (Ok (Sent packet.number items packet.eliciting
-      window)) after
+      window packet.delay)) after
       (wire ++ packet ∷ [])
   sends_at end space now size packet items window wire here there after same =
-      subst (λ (at : SpaceId). SendsPacket here after end at size packet items window
-      → StepKeepsAt end here there wire (Send end at now size) (Ok (Sent packet.number items packet.eliciting window))
+      subst (λ (at : SpaceId). SendsPacket here after end at now size packet items window
+      → StepKeepsAt end here there wire (Send end at now size) (Ok (Sent packet.number items packet.eliciting window
+      packet.delay))
       after
       (wire ++ packet ∷ [])) same (λ is validated log tied.
       sent_step end now size packet items window wire here there after is validated log tied)
@@ -422,19 +454,20 @@ module _ {F Q R C K S M P : Type 0} {f : _} {c : _} {q : _} {m : _} {r : _} wher
       (window : Option ℕ)
       (client server client_after server_after : Sender F Q R C K S M P f c q m r) (wire all : List WirePacket)
       → all ≡ wire ++ packet ∷ []
-      → TurnsAt end (λ (old new : Sender F Q R C K S M P f c q m r). SendsPacket old new end space size packet items
+      → TurnsAt end (λ (old new : Sender F Q R C K S M P f c q m r). SendsPacket old new end space now size packet items
       window)
       client server client_after server_after
       → ExchangeKept client server wire (Send end space now size) (Ok (Sent packet.number items packet.eliciting
-      window)) client_after
+      window packet.delay)) client_after
       server_after
       all
   send_turn end space now size packet items window client server client_after server_after wire all pushed turns =
       subst (λ (all : List WirePacket). ExchangeKept client server wire (Send end space now size)
-      (Ok (Sent packet.number items packet.eliciting window)) client_after server_after all) (sym pushed)
-      (by_turn end (λ (old new : Sender F Q R C K S M P f c q m r). SendsPacket old new end space size packet items
+      (Ok (Sent packet.number items packet.eliciting window packet.delay)) client_after server_after all) (sym pushed)
+      (by_turn end (λ (old new : Sender F Q R C K S M P f c q m r). SendsPacket old new end space now size packet items
       window)
-      wire (wire ++ packet ∷ []) (Send end space now size) (Ok (Sent packet.number items packet.eliciting window))
+      wire (wire ++ packet ∷ []) (Send end space now size) (Ok (Sent packet.number items packet.eliciting window
+      packet.delay))
       (λ here there after is. sends_at end space now size packet items window wire here there after is.there is)
       client server client_after server_after turns)
 
@@ -443,7 +476,7 @@ module _ {F Q R C K S M P : Type 0} {f : _} {c : _} {q : _} {m : _} {r : _} wher
 module _ {Q S M P : Type 0} (log : PairLog) (at now : ℕ) (from : End) (past peer after : History Q S M P)
     (packet : WirePacket) (items : Vec ℕ) (acked : AckOutcome) (wire : List WirePacket) (sender : packet.from ≡ from)
     (told : items.items ≡ packet.items.items)
-    (ends : Numbers) (hears : HearsNumber packet.size packet.space packet.number (Ok true) ends peer after)
+    (ends : Numbers) (hears : HearsNumber now packet.size packet.space packet.number (Ok true) ends peer after)
     (flows : Flows log from past peer) (wired : AllByRecursion (IsOnWire log) wire) (on : IsOnWire log packet) where
   abbrev new_log : PairLog
   new_log = taking log at now packet.space packet.number packet.size items acked (other_end from) ∷ log
@@ -548,8 +581,8 @@ module _ {F Q R C K S M P : Type 0} {f : _} {c : _} {q : _} {m : _} {r : _} (at 
           on_wire.sent in absurd cc
       by (inr (items, was)) = let below = was.small in grind (arith, nat_tests, below)
 
-  module _ (fate : Fate) (is : HearsPacket here after packet fate) where
-    own_went : (past : History Q S M P) × HearsNumber packet.size packet.space packet.number (reply_of fate)
+  module _ (fate : Fate) (is : HearsPacket here after packet now fate) where
+    own_went : (past : History Q S M P) × HearsNumber now packet.size packet.space packet.number (reply_of fate)
         (ends_by_fate packet.space fate) tied.own.past past
     own_went =
         let own = is.goes.from tied.own.config tied.own.start tied.own.random tied.own.past tied.own.came in
@@ -574,7 +607,8 @@ module _ {F Q R C K S M P : Type 0} {f : _} {c : _} {q : _} {m : _} {r : _} (at 
 
     -- nothing new arrives
     pub old_step : IsSilent (Arrive at now, Ok (Arrived (other_end from) packet.space packet.number packet.size fate))
-        → (hearing packet.size packet.space packet.number (reply_of fate) (ends_by_fate packet.space fate)).heard ≡ None
+        → (hearing now packet.size packet.space packet.number (reply_of fate) (ends_by_fate packet.space fate)).heard ≡
+        None
         → Delivers packet.items.items fate
         → IsFirstDelivery (deliveries_of (other_end from) packet.space packet.number log) fate
         → KeepsExchange validated log
@@ -584,7 +618,8 @@ module _ {F Q R C K S M P : Type 0} {f : _} {c : _} {q : _} {m : _} {r : _} (at 
         wire
     old_step silent none delivers once = silent_step (other_end from) (Arrive at now)
         (Ok (Arrived (other_end from) packet.space packet.number packet.size fate))
-        (hearing packet.size packet.space packet.number (reply_of fate) (ends_by_fate packet.space fate)) silent none
+        (hearing now packet.size packet.space packet.number (reply_of fate) (ends_by_fate packet.space fate)) silent
+        none
         (λ log. arriving_adds log at now packet.space packet.number packet.size (other_end from) fate)
         (λ log. arriving_adds_not log at now packet.space packet.number packet.size (other_end from) fate) wire here
         there after (record {
@@ -593,7 +628,7 @@ module _ {F Q R C K S M P : Type 0} {f : _} {c : _} {q : _} {m : _} {r : _} (at 
         }) validated log tied (arrival delivers once)
 
   -- it is new
-  module _ (items : Vec ℕ) (acked : AckOutcome) (is : HearsPacket here after packet (New items acked)) where
+  module _ (items : Vec ℕ) (acked : AckOutcome) (is : HearsPacket here after packet now (New items acked)) where
     abbrev event : PairEvent
     event = taking log at now packet.space packet.number packet.size items acked (other_end from)
 
@@ -624,7 +659,8 @@ module _ {F Q R C K S M P : Type 0} {f : _} {c : _} {q : _} {m : _} {r : _} (at 
               (flows_new log at now from tied.peer.past tied.own.past own.0 packet items acked wire sender
               is.takes.told (ends_by_ack packet.space acked) own.2 toward tied.wired on_wire);
           logged = logged_on validated log event (other_end from) tied.own.config.validated
-              (hearing packet.size packet.space packet.number (Ok true) (ends_by_ack packet.space acked)) tied.own.past
+              (hearing now packet.size packet.space packet.number (Ok true) (ends_by_ack packet.space acked))
+              tied.own.past
               own.0
               (arriving_adds log at now packet.space packet.number packet.size (other_end from) (New items acked))
               own.2.goes tied.logged;
@@ -654,6 +690,7 @@ module _ {F Q R C K S M P : Type 0} {f : _} {c : _} {q : _} {m : _} {r : _} (at 
                 tied.wired on_wire);
             limited = threefold_at validated (event ∷ log) (other_end from) after there wire tied_new;
             window = tt;
+            delay = tt;
             flight = exceeds_by (event ∷ log) tied_new.within;
           },
           tied_new,
@@ -662,7 +699,7 @@ module _ {F Q R C K S M P : Type 0} {f : _} {c : _} {q : _} {m : _} {r : _} (at 
 module _ {F Q R C K S M P : Type 0} {f : _} {c : _} {q : _} {m : _} {r : _} (at now : ℕ) (packet : WirePacket)
     (wire : List WirePacket) (within : at < length wire) (found : packet ≡ get_or wire at packet) where
   arrive_step : (from : End) → packet.from ≡ from → (fate : Fate) (here there after : Sender F Q R C K S M P f c q m r)
-      → HearsPacket here after packet fate
+      → HearsPacket here after packet now fate
       → StepKeepsAt (other_end from) here there wire (Arrive at now)
       (Ok (Arrived (other_end from) packet.space packet.number packet.size fate)) after wire
   arrive_step from sender (New items acked) here there after is validated log tied =
@@ -677,18 +714,18 @@ module _ {F Q R C K S M P : Type 0} {f : _} {c : _} {q : _} {m : _} {r : _} (at 
   -- a packet arrives at the end that did not send it
   pub arrives_at : (to : End) (fate : Fate) (client server client_after server_after : Sender F Q R C K S M P f c q m r)
       → to ≡ other_end packet.from
-      → TurnsAt to (λ (old new : Sender F Q R C K S M P f c q m r). HearTurn old new packet (Ok fate)) client server
+      → TurnsAt to (λ (old new : Sender F Q R C K S M P f c q m r). HearTurn old new packet now (Ok fate)) client server
       client_after server_after
       → ExchangeKept client server wire (Arrive at now)
       (Ok (Arrived to packet.space packet.number packet.size fate)) client_after server_after wire
   arrives_at to fate client server client_after server_after is =
       subst (λ (e : End).
-      TurnsAt e (λ (old new : Sender F Q R C K S M P f c q m r). HearTurn old new packet (Ok fate)) client server
+      TurnsAt e (λ (old new : Sender F Q R C K S M P f c q m r). HearTurn old new packet now (Ok fate)) client server
       client_after server_after
       → ExchangeKept client server wire (Arrive at now)
       (Ok (Arrived e packet.space packet.number packet.size fate)) client_after server_after wire) (sym is)
       (by_turn (other_end packet.from)
-      (λ (old new : Sender F Q R C K S M P f c q m r). HearTurn old new packet (Ok fate)) wire wire (Arrive at now)
+      (λ (old new : Sender F Q R C K S M P f c q m r). HearTurn old new packet now (Ok fate)) wire wire (Arrive at now)
       (Ok (Arrived (other_end packet.from) packet.space packet.number packet.size fate))
       (λ here there after turn. arrive_step packet.from refl fate here there after turn)
       client server client_after server_after)
@@ -697,16 +734,16 @@ module _ {F Q R C K S M P : Type 0} {f : _} {c : _} {q : _} {m : _} {r : _} (at 
 
 pub local_answer : (end : End) (step : LocalStep) (result : Result PairAnswer SenderError)
     → IfOk result (IsLocalAnswer step) → IsNoPacket (Local end step, result)
-local_answer end (Expire now) (Ok (Sent number items eliciting window)) never = absurd never
+local_answer end (Expire now) (Ok (Sent number items eliciting window delay)) never = absurd never
 local_answer end (Expire now) (Ok (Arrived to space number size fate)) never = absurd never
-local_answer end (Late now) (Ok (Sent number items eliciting window)) never = absurd never
+local_answer end (Late now) (Ok (Sent number items eliciting window delay)) never = absurd never
 local_answer end (Late now) (Ok (Arrived to space number size fate)) never = absurd never
-local_answer end step (Ok (Sent number items eliciting window)) never = absurd never
+local_answer end step (Ok (Sent number items eliciting window delay)) never = absurd never
 local_answer end step (Ok (Arrived to space number size fate)) never = absurd never
 local_answer end step result answer = tt
 
 none_silent : (event : PairEvent) → IsNoPacket event → IsSilent event
-none_silent (step, Ok (Sent number items eliciting window)) none = absurd none
+none_silent (step, Ok (Sent number items eliciting window delay)) none = absurd none
 none_silent (step, Ok (Arrived to space number size fate)) none = absurd none
 none_silent other none = tt
 

@@ -132,9 +132,10 @@ left_out true items more is = absurd (true≢false is)
 
 -- ---- a packet is sent
 
-module _ (log : PairLog) (there : SpaceId) (now size m : ℕ) (items : Vec ℕ) (eliciting : Bool) (window : Option ℕ) where
+module _ (log : PairLog) (there : SpaceId) (now size m : ℕ) (items : Vec ℕ) (eliciting : Bool) (window : Option ℕ)
+    (delay : ℕ) where
   abbrev pub sending : End → PairEvent
-  sending end = (Send end there now size, Ok (Sent m items eliciting window))
+  sending end = (Send end there now size, Ok (Sent m items eliciting window delay))
 
   own_sends : (end : End) (space : SpaceId) (n : ℕ) → sends_of end space n (sending end ∷ log)
       ≡ (if is_it there m space n then items.items ∷ sends_of end space n log else sends_of end space n log)
@@ -228,7 +229,8 @@ module _ (log : PairLog) (at now : ℕ) (there : SpaceId) (m size : ℕ) (items 
 
   -- `from` sent it, and the other end hears it
   module _ {Q S M P : Type 0} (from : End) (past peer peer_after : History Q S M P)
-      (ends : Numbers) (hears : HearsNumber size there m (Ok true) ends peer peer_after) (sent : sends_of from there m
+      (ends : Numbers) (hears : HearsNumber now size there m (Ok true) ends peer peer_after) (sent : sends_of from
+      there m
       log ≡ items.items ∷ [])
       (flows : Flows log from past peer) where
     abbrev heard_now : PairLog
@@ -285,7 +287,8 @@ module _ (log : PairLog) (at now : ℕ) (there : SpaceId) (m size : ℕ) (items 
         (own_takes (other_end from) space n
         ∙ left_out (is_it there m space n) items.items (deliveries_of (other_end from) space n log) is)
         (λ given. given)
-        (came_on (hearing size there m (Ok true) ends) peer peer_after hears.goes space n) (λ was. heard_by space n is
+        (came_on (hearing now size there m (Ok true) ends) peer peer_after hears.goes space n) (λ was. heard_by space n
+        is
         (hears.goes.heard space n was))
         (flows.each space n)
 

@@ -1,5 +1,5 @@
 -- What an end does with its sender at each step, from its calls.
-use Rattle.std.proofs.Common.{◌≡◌, ℕ, ◌+◌, ◌≤◌, ◌&&◌, Bool, true, false, List, Option, None, Some, Result, Ok, refl, sym, subst}
+use Rattle.std.proofs.Common.{◌≡◌, ℕ, ◌+◌, ◌≤◌, ◌&&◌, Bool, true, false, List, Option, None, Some, Result, Ok, refl, sym, subst, ◌∙◌}
 use Rattle.std.specs.Prelude.{not, if◌then◌else◌}
 use Rattle.std.specs.Global.{Vec}
 use Rattle.recovery_base.specs.declared.below.SpaceId.{SpaceId}
@@ -66,19 +66,21 @@ module _ {F Q R C K S M P : Type 0} {f : _} {c : _} {q : _} {m : _} {r : _} wher
 
   -- ---- a datagram that is permitted
 
-  packet_goes : (from : End) (space : SpaceId) (size : ℕ) (eliciting : Bool) (checked : Option ℕ)
-      (ranges : List (ℕ × ℕ)) (old between new : Sender F Q R C K S M P f c q m r) (packet : WirePacket)
-      (items : Vec ℕ) (window : Option ℕ) → IsFrameFor space old ranges → FitsChecked old size checked
+  packet_goes : (from : End) (space : SpaceId) (now size : ℕ) (eliciting : Bool) (checked : Option ℕ)
+      (ranges : List (ℕ × ℕ)) (delay : ℕ) (old between new : Sender F Q R C K S M P f c q m r) (packet : WirePacket)
+      (items : Vec ℕ) (window : Option ℕ) → IsFrameFor space now old ranges delay → FitsChecked old size checked
       → Continues (GoesOn (leaving size)) old between
-      → PacksPacket between new from space size eliciting checked ranges packet items window
-      → SendsPacket old new from space size packet items window
-  packet_goes from space size eliciting checked ranges old between new packet items window frame fits first packs =
+      → PacksPacket between new from space size eliciting checked ranges delay packet items window
+      → SendsPacket old new from space now size packet items window
+  packet_goes from space now size eliciting checked ranges delay old between new packet items window frame fits first
+      packs =
       record {
         sender = packs.sender;
         there = packs.there;
         sized = packs.sized;
         told = packs.told;
         sound = rw packs.acks frame.sound;
+        waited = packs.delays ∙ frame.waited;
         fits = window_same old size window checked packs.window_is fits;
         goes = record {
           from = λ config start random past came. (
@@ -106,50 +108,55 @@ module _ {F Q R C K S M P : Type 0} {f : _} {c : _} {q : _} {m : _} {r : _} wher
       (λ past between after first second. quiet_then quiet past between after
       (left_quietly size past between first) second)
 
-  pub packed_turn : (from : End) (space : SpaceId) (size : ℕ) (eliciting : Bool) (checked : Option ℕ)
-      (ranges : List (ℕ × ℕ)) (old between new : Sender F Q R C K S M P f c q m r) (outcome : Outgoing)
-      → IsFrameFor space old ranges → FitsChecked old size checked → Continues (GoesOn (leaving size)) old between
-      → PackTurn between new from space size eliciting checked ranges outcome
-      → SendTurn old new from space size (Ok outcome)
-  packed_turn from space size eliciting checked ranges old between new (Sent packet items window) frame fits first
+  pub packed_turn : (from : End) (space : SpaceId) (now size : ℕ) (eliciting : Bool) (checked : Option ℕ)
+      (ranges : List (ℕ × ℕ)) (delay : ℕ) (old between new : Sender F Q R C K S M P f c q m r) (outcome : Outgoing)
+      → IsFrameFor space now old ranges delay → FitsChecked old size checked → Continues (GoesOn (leaving size)) old
+      between
+      → PackTurn between new from space size eliciting checked ranges delay outcome
+      → SendTurn old new from space now size (Ok outcome)
+  packed_turn from space now size eliciting checked ranges delay old between new (Sent packet items window) frame fits
+      first
       turn =
-      packet_goes from space size eliciting checked ranges old between new packet items window frame fits first turn
-  packed_turn from space size eliciting checked ranges old between new Nothing frame fits first turn =
+      packet_goes from space now size eliciting checked ranges delay old between new packet items window frame fits
+      first turn
+  packed_turn from space now size eliciting checked ranges delay old between new Nothing frame fits first turn =
       held_back size old between new first turn
-  packed_turn from space size eliciting checked ranges old between new (Held held) frame fits first turn =
+  packed_turn from space now size eliciting checked ranges delay old between new (Held held) frame fits first turn =
       held_back size old between new first turn
-  packed_turn from space size eliciting checked ranges old between new (Failed refusal) frame fits first turn =
+  packed_turn from space now size eliciting checked ranges delay old between new (Failed refusal) frame fits first turn
+      =
       held_back size old between new first turn
 
   -- ---- a packet that arrives
 
-  pub came_turn : (size : ℕ) (space : SpaceId) (n : ℕ) (reply : Result Bool SenderError)
+  pub came_turn : (now size : ℕ) (space : SpaceId) (n : ℕ) (reply : Result Bool SenderError)
       (old counted heard : Sender F Q R C K S M P f c q m r) → Continues (GoesOn (arriving size)) old counted
-      → Continues (HearsNumber 0 space n reply no_numbers) counted heard
-      → Continues (HearsNumber size space n reply no_numbers) old heard
-  came_turn size space n reply =
-      joined (GoesOn (arriving size)) (HearsNumber 0 space n reply no_numbers)
-      (HearsNumber size space n reply no_numbers) (arrives_then_hears size space n reply no_numbers)
+      → Continues (HearsNumber now 0 space n reply no_numbers) counted heard
+      → Continues (HearsNumber now size space n reply no_numbers) old heard
+  came_turn now size space n reply =
+      joined (GoesOn (arriving size)) (HearsNumber now 0 space n reply no_numbers)
+      (HearsNumber now size space n reply no_numbers) (arrives_then_hears now size space n reply no_numbers)
 
   -- it is new
-  pub heard_turn : (packet : WirePacket) (items : Vec ℕ) (acked : AckOutcome)
+  pub heard_turn : (now : ℕ) (packet : WirePacket) (items : Vec ℕ) (acked : AckOutcome)
       (old counted heard taken new : Sender F Q R C K S M P f c q m r) → items.items ≡ packet.items.items
       → Continues (GoesOn (arriving packet.size)) old counted
-      → Continues (HearsNumber 0 packet.space packet.number (Ok true) no_numbers) counted heard
+      → Continues (HearsNumber now 0 packet.space packet.number (Ok true) no_numbers) counted heard
       → Continues (GoesOn (ending (ends_by_ack packet.space acked))) heard taken → NoAccusation packet.space
       packet.ranges.items heard acked
       → AcksWithin packet.ranges.items acked → Continues GoesOnQuietly taken new
-      → HearsPacket old new packet (New items acked)
-  heard_turn packet items acked old counted heard taken new told counts hears takes honest within plans =
-      let came = came_turn packet.size packet.space packet.number (Ok true) old counted heard counts hears in
+      → HearsPacket old new packet now (New items acked)
+  heard_turn now packet items acked old counted heard taken new told counts hears takes honest within plans =
+      let came = came_turn now packet.size packet.space packet.number (Ok true) old counted heard counts hears in
       let ends : Numbers = ends_by_ack packet.space acked in
       record {
-        goes = joined (HearsNumber packet.size packet.space packet.number (Ok true) ends) GoesOnQuietly
-            (HearsNumber packet.size packet.space packet.number (Ok true) ends)
-            (hears_then_quiet packet.size packet.space packet.number (Ok true) ends) old taken new
-            (joined (HearsNumber packet.size packet.space packet.number (Ok true) no_numbers) (GoesOn (ending ends))
-            (HearsNumber packet.size packet.space packet.number (Ok true) ends)
-            (hears_then_ends packet.size packet.space packet.number (Ok true) ends) old heard taken came takes) plans;
+        goes = joined (HearsNumber now packet.size packet.space packet.number (Ok true) ends) GoesOnQuietly
+            (HearsNumber now packet.size packet.space packet.number (Ok true) ends)
+            (hears_then_quiet now packet.size packet.space packet.number (Ok true) ends) old taken new
+            (joined (HearsNumber now packet.size packet.space packet.number (Ok true) no_numbers) (GoesOn (ending ends))
+            (HearsNumber now packet.size packet.space packet.number (Ok true) ends)
+            (hears_then_ends now packet.size packet.space packet.number (Ok true) ends) old heard taken came takes)
+            plans;
         takes = record {
           told = told;
           honest = λ sound config start random past at were. (

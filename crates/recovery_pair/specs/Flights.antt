@@ -62,7 +62,7 @@ module _ (end : End) where
   -- the bytes in flight of the packets whose window is such, except for those numbers that are gone
   abbrev pub flight_of : (Option ℕ → Bool) → Numbers → PairLog → ℕ
   flight_of is_such gone [] = 0
-  flight_of is_such gone ((Send from there now size, Ok (Sent number items eliciting window)) ∷ earlier) =
+  flight_of is_such gone ((Send from there now size, Ok (Sent number items eliciting window delay)) ∷ earlier) =
       (if same_end from end && is_such window then (if gone there number then 0 else counted_if eliciting size) else 0)
       + flight_of is_such gone earlier
   flight_of is_such gone (event ∷ earlier) =
@@ -75,6 +75,6 @@ module _ (end : End) where
   -- the largest window for which one of its packets was checked
   abbrev pub largest_window : PairLog → ℕ
   largest_window [] = 0
-  largest_window ((Send from there now size, Ok (Sent number items eliciting (Some window))) ∷ earlier) =
+  largest_window ((Send from there now size, Ok (Sent number items eliciting (Some window) delay)) ∷ earlier) =
       if same_end from end then max window (largest_window earlier) else largest_window earlier
   largest_window (event ∷ earlier) = largest_window earlier

@@ -1,7 +1,7 @@
 -- The ACK frame that an end sends (RFC 9000, 13.2.3 and 19.3.1).
 use Rattle.std.specs.Prelude.{◌≡◌, ℕ, ◌⊎◌, true, List, []}
 use Rattle.recovery_base.specs.declared.below.SpaceId.{SpaceId}
-use Rattle.recovery_acks.specs.Acks.{IsPending}
+use Rattle.recovery_acks.specs.Acks.{IsPending, delay_at}
 use Rattle.recovery_losses.specs.Frames.{are_ranges, IsInAckRanges}
 use Rattle.recovery_spaces.specs.Spaces.{acks_of, space_of}
 use Rattle.recovery_sender.specs.Senders.{state_in}
@@ -11,8 +11,9 @@ use Rattle.recovery_sender.specs.declared.sender.Sender.{Sender}
 abbrev pub IsSoundFrame : List (ℕ × ℕ) → Type 0
 IsSoundFrame ranges = (ranges ≡ []) ⊎ (are_ranges ranges ≡ true)
 
--- it has only numbers that are to be acknowledged in the space
+-- it has only numbers that are to be acknowledged in the space; and its delay is since the largest was received
 pub record IsFrameFor {F Q R C K S M P : Type 0} {f : _} {c : _} {q : _} {m : _} {r : _} (space : SpaceId)
-    (sender : Sender F Q R C K S M P f c q m r) (ranges : List (ℕ × ℕ)) : Type 0 where
+    (now : ℕ) (sender : Sender F Q R C K S M P f c q m r) (ranges : List (ℕ × ℕ)) (delay : ℕ) : Type 0 where
   pub sound : IsSoundFrame ranges
   pub each : (n : ℕ) → IsInAckRanges n ranges → IsPending (acks_of (space_of space (state_in sender).spaces)) n
+  pub waited : delay ≡ delay_at now (acks_of (space_of space (state_in sender).spaces)).counts.largest

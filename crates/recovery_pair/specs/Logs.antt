@@ -39,7 +39,7 @@ is_number end space n at there number = same_end at end && (same_space there spa
 -- the items of each packet that an end sent under a number
 abbrev pub sends_of : End → SpaceId → ℕ → PairLog → List (List ℕ)
 sends_of end space n [] = []
-sends_of end space n ((Send from there now size, Ok (Sent number items eliciting window)) ∷ earlier) =
+sends_of end space n ((Send from there now size, Ok (Sent number items eliciting window delay)) ∷ earlier) =
     if is_number end space n from there number then items.items ∷ sends_of end space n earlier
     else sends_of end space n earlier
 sends_of end space n (event ∷ earlier) = sends_of end space n earlier
@@ -65,7 +65,7 @@ pub record LoggedPacket : Type 0 where
 -- all packets that were sent, in the order of sending
 abbrev pub wire_of : PairLog → List LoggedPacket
 wire_of [] = []
-wire_of ((Send end there now bytes, Ok (Sent n told eliciting window)) ∷ earlier) =
+wire_of ((Send end there now bytes, Ok (Sent n told eliciting window delay)) ∷ earlier) =
     wire_of earlier ++ record { from = end; space = there; number = n; size = bytes; items = told.items } ∷ []
 wire_of (event ∷ earlier) = wire_of earlier
 
@@ -79,7 +79,7 @@ module _ (end : End) where
   -- the bytes of the packets that it sent
   abbrev pub bytes_sent : PairLog → ℕ
   bytes_sent [] = 0
-  bytes_sent ((Send from there now size, Ok (Sent number items eliciting window)) ∷ earlier) =
+  bytes_sent ((Send from there now size, Ok (Sent number items eliciting window delay)) ∷ earlier) =
       if same_end from end then size + bytes_sent earlier else bytes_sent earlier
   bytes_sent (event ∷ earlier) = bytes_sent earlier
 
@@ -121,6 +121,6 @@ module _ (end : End) where
   -- and what it sent there
   abbrev pub sent_in : (List ℕ → ℕ) → SpaceId → PairLog → ℕ
   sent_in measure space [] = 0
-  sent_in measure space ((Send from there now size, Ok (Sent number items eliciting window)) ∷ earlier) =
+  sent_in measure space ((Send from there now size, Ok (Sent number items eliciting window delay)) ∷ earlier) =
       part (same_end from end && same_space there space) (measure items.items) + sent_in measure space earlier
   sent_in measure space (event ∷ earlier) = sent_in measure space earlier

@@ -1,12 +1,14 @@
 -- How the past of an end goes on: what was sent stays sent, what was received stays received.
-use Rattle.std.specs.Prelude.{◌≡◌, ℕ, ◌+◌, ◌<◌, ◌≤◌, ◌⊎◌, ◌||◌, nat_eq, nat_le, Bool, true, false, List, ◌∷◌, sum_by, Option, None, Some, Result, Ok, Err, if◌then◌else◌}
+use Rattle.std.specs.Prelude.{◌≡◌, ℕ, ◌+◌, ◌<◌, ◌≤◌, ◌⊎◌, ◌||◌, nat_eq, nat_le, Bool, true, false, List, [], ◌∷◌, sum_by, Option, None, Some, Result, Ok, Err, if◌then◌else◌}
 use Rattle.std.specs.Set.{is_member}
 use Rattle.rand_core.specs.Stream.{Stream}
+use Rattle.recovery_acks.specs.Acks.{largest_with}
 use Rattle.recovery_base.specs.declared.below.SpaceId.{SpaceId}
 use Rattle.recovery_base.specs.Spaces.{same_space}
 use Rattle.recovery_base.specs.Units.{number_limit}
 use Rattle.recovery_events.specs.declared.event.Answer.{Answer}
 use Rattle.recovery_events.specs.declared.event.Answer.TheVariants.{New}
+use Rattle.recovery_events.specs.declared.event.Event.TheVariants.{Received}
 use Rattle.recovery_events.specs.declared.event.Refusal.TheVariants.{NoMemory, NumberTooLarge, SpaceDiscarded}
 use Rattle.recovery_losses.specs.Frames.{IsInAckRanges}
 use Rattle.recovery_losses.specs.Losses.{IsOneOf}
@@ -49,6 +51,8 @@ pub record EndTurn : Type 0 where
   pub counts : Option (SpaceId × ℕ × ℕ)
   -- no other packets than these are acknowledged, lost, or discarded with their space
   pub ends : Numbers
+  -- when a packet is heard
+  pub at : ℕ
 
 abbrev pub ending : Numbers → EndTurn
 ending ends = record {
@@ -60,6 +64,7 @@ ending ends = record {
   validates = false;
   counts = None;
   ends = ends;
+  at = 0;
 }
 
 abbrev pub quiet : EndTurn
@@ -90,9 +95,20 @@ abbrev pub new_by : SpaceId × ℕ → Result Bool SenderError → Option (Space
 new_by number (Ok true) = Some number
 new_by number reply = None
 
-abbrev pub hearing : ℕ → SpaceId → ℕ → Result Bool SenderError → Numbers → EndTurn
-hearing size space n reply ends =
-    record quiet { came = came_by (space, n) reply; heard = new_by (space, n) reply; arrives = size; ends = ends }
+abbrev pub hearing : ℕ → ℕ → SpaceId → ℕ → Result Bool SenderError → Numbers → EndTurn
+hearing now size space n reply ends = record quiet {
+  came = came_by (space, n) reply;
+  heard = new_by (space, n) reply;
+  arrives = size;
+  ends = ends;
+  at = now;
+}
+
+-- the largest number received, with its time, after another was
+abbrev pub with_largest : SpaceId → Option (SpaceId × ℕ) → ℕ → Option (ℕ × ℕ) → Option (ℕ × ℕ)
+with_largest space None now before = before
+with_largest space (Some number) now before =
+    if same_space number.0 space then largest_with before number.1 now else before
 
 abbrev pub with_number : SpaceId → Option (SpaceId × ℕ) → List ℕ → List ℕ
 with_number space None before = before
@@ -138,6 +154,14 @@ module _ {Q S M P : Type 0} where
   abbrev pub flight_in : Numbers → History Q S M P → ℕ
   flight_in gone past = sum_on (λ size eliciting. counted_if eliciting size) (generations past).current gone past
 
+  -- the largest number of a space that was received, and when
+  abbrev pub largest_came : SpaceId → History Q S M P → Option (ℕ × ℕ)
+  largest_came space [] = None
+  largest_came space ((Received there now number eliciting, Ok (New arm)) ∷ earlier) =
+      if same_space there space then largest_with (largest_came space earlier) number now
+      else largest_came space earlier
+  largest_came space (happened ∷ earlier) = largest_came space earlier
+
   -- only this is added
   pub record GoesOn (turn : EndTurn) (past after : History Q S M P) : Type 0 where
     pub given : (space : SpaceId) (n : ℕ) → WasSentUnder space n past → WasSentUnder space n after
@@ -150,6 +174,8 @@ module _ {Q S M P : Type 0} where
         ≡ (is_of space turn.discards || is_discarded space past)
     pub validated : (first : Bool) → is_validated first Current after
         ≡ (turn.validates || is_validated first Current past)
+    pub largest : (space : SpaceId) → largest_came space after
+        ≡ with_largest space turn.heard turn.at (largest_came space past)
     pub flight : (gone : Numbers) → added turn.counts gone
         + flight_in (λ space n. turn.ends space n || gone space n) past ≤ flight_in gone after
 
@@ -170,9 +196,9 @@ module _ {Q S M P : Type 0} where
     pub acks : (k : ℕ) → IsInAckRanges k ranges → WasReceived space k past
 
   -- a packet comes: it is new, a duplicate, or dropped, by what came before
-  pub record HearsNumber (size : ℕ) (space : SpaceId) (n : ℕ) (reply : Result Bool SenderError) (ends : Numbers)
+  pub record HearsNumber (now size : ℕ) (space : SpaceId) (n : ℕ) (reply : Result Bool SenderError) (ends : Numbers)
       (past after : History Q S M P) : Type 0 where
-    pub goes : GoesOn (hearing size space n reply ends) past after
+    pub goes : GoesOn (hearing now size space n reply ends) past after
     pub by : IsHeardBy (is_discarded space past) (nat_le number_limit n) (is_new (came_in space past) n) reply
 
 -- ---- the same of a sender

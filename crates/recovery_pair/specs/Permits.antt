@@ -20,7 +20,7 @@ module _ (in_flight : Bool) (checked : Option ℕ) (said : Result Transmission S
   -- what is sent was permitted, as what counts in flight or not, and with the window that was checked; what is held
   -- back was not permitted, for the reason that is reported
   abbrev pub AgreesWith : Result PairAnswer SenderError → Type 0
-  AgreesWith (Ok (Sent number items eliciting window)) =
+  AgreesWith (Ok (Sent number items eliciting window delay)) =
       (said ≡ Ok Transmitted) × (eliciting ≡ in_flight) × (window ≡ checked)
   AgreesWith (Ok (Failed refusal)) = said ≡ Ok Transmitted
   AgreesWith (Ok (Held held)) = (said ≡ Ok held) × (held ≡ Transmitted → ⊥)

@@ -4,6 +4,7 @@
 use Rattle.std.specs.Prelude.{◌∷◌, Bool}
 use Rattle.recovery_pair.specs.Logs.{PairEvent, PairLog}
 use Rattle.recovery_pair.specs.Promises.Arrivals.{ArrivesAsSent}
+use Rattle.recovery_pair.specs.Promises.Delays.{ReportsDelay}
 use Rattle.recovery_pair.specs.Promises.DeliveredOnce.{AcksDelivered}
 use Rattle.recovery_pair.specs.Promises.Excess.{ExceedsByProbes}
 use Rattle.recovery_pair.specs.Promises.Locals.{AnswersLocally}
@@ -12,6 +13,7 @@ use Rattle.recovery_pair.specs.Promises.Sends.{SendsWhatWaits}
 use Rattle.recovery_pair.specs.Promises.Threefold.{ServerSendsThreefold}
 use Rattle.recovery_pair.specs.Promises.Window.{SendsWithinWindow}
 pub mod Arrivals
+pub mod Delays
 pub mod DeliveredOnce
 pub mod Excess
 pub mod Locals
@@ -36,6 +38,9 @@ pub record KeepsPromises (validated : Bool) (log : PairLog) (event : PairEvent) 
   pub window : SendsWithinWindow log event
   -- What is in flight exceeds the largest window so far by the probes in flight at most (RFC 9002, 7 and 7.5).
   pub flight : ExceedsByProbes (event ∷ log)
+  -- The ACK delay that an endpoint reports is the time since it received the largest number of the space, as new (RFC
+  -- 9000, 13.2.5).
+  pub delay : ReportsDelay log event
   -- An endpoint has nothing to send in a space only once it has sent there no less than was passed to it, by every
   -- measure of the items of a packet (RFC 9000, 13).
   pub sends : SendsWhatWaits log event

@@ -22,7 +22,8 @@ use Rattle.recovery_pair.specs.Flights.{Numbers, flight_of, largest_window, no_n
 use Rattle.recovery_pair.specs.Frames.{IsSoundFrame}
 use Rattle.recovery_pair.specs.Logs.{PairLog, LoggedPacket, bytes_arrived, bytes_sent, deliveries_of, has_validated, numbers_at, other_end, sends_of, was_discarded, wire_of}
 use Rattle.recovery_pair.specs.Waits.{AreQueued}
-use Rattle.recovery_pair.specs.Pasts.{Came, WasSentUnder, bytes_received, bytes_transmitted, flight_in}
+use Rattle.recovery_pair.specs.Pasts.{Came, WasSentUnder, bytes_received, bytes_transmitted, flight_in, largest_came}
+use Rattle.recovery_pair.specs.Promises.Delays.{largest_new}
 
 -- ---- one number, from one end to the other
 
@@ -91,6 +92,7 @@ pub record IsLogged {Q S M P : Type 0} (validated : Bool) (log : PairLog) (end :
   pub address : is_validated first Current past ≡ has_validated end (validated_first end validated) log
   pub arrived : bytes_received past ≤ bytes_arrived end log
   pub left : bytes_sent end log ≤ bytes_transmitted past
+  pub largest : (space : SpaceId) → largest_came space past ≡ largest_new end space log
   pub flight : (gone : Numbers) → flight_of end (λ window. true) gone log ≤ flight_in gone past
 
 module _ {F Q R C K S M P : Type 0} {f : _} {c : _} {q : _} {m : _} {r : _} where

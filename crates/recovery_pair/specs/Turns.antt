@@ -1,7 +1,10 @@
 -- What an end does with its sender at each step.
 use Rattle.std.specs.Prelude.{◌≡◌, ℕ, Bool, true, false, List, Option, Result, Ok, Err}
 use Rattle.std.specs.Global.{Vec}
+use Rattle.recovery_acks.specs.Acks.{delay_at}
 use Rattle.recovery_base.specs.declared.below.SpaceId.{SpaceId}
+use Rattle.recovery_spaces.specs.Spaces.{acks_of, space_of}
+use Rattle.recovery_sender.specs.Senders.{state_in}
 use Rattle.recovery_sender.specs.declared.sender.Sender.{Sender}
 use Rattle.recovery_sender.specs.declared.sender.SenderError.{SenderError}
 use Rattle.recovery_sender.specs.declared.sender.probes.Timeout.{Timeout}
@@ -68,7 +71,7 @@ module _ {F Q R C K S M P : Type 0} {f : _} {c : _} {q : _} {m : _} {r : _} (old
 
     -- a packet goes out, with the items that are told, and an ACK of numbers that were received; with what is in
     -- flight it fits into the window that is checked
-    pub record SendsPacket (from : End) (space : SpaceId) (size : ℕ) (packet : WirePacket) (items : Vec ℕ)
+    pub record SendsPacket (from : End) (space : SpaceId) (now size : ℕ) (packet : WirePacket) (items : Vec ℕ)
         (window : Option ℕ) : Type 0 where
       pub sender : packet.from ≡ from
       pub there : packet.space ≡ space
@@ -76,30 +79,32 @@ module _ {F Q R C K S M P : Type 0} {f : _} {c : _} {q : _} {m : _} {r : _} (old
       pub told : items.items ≡ packet.items.items
       pub sound : IsSoundFrame packet.ranges.items
       pub fits : FitsChecked old size window
+      pub waited : packet.delay ≡ delay_at now (acks_of (space_of space (state_in old).spaces)).counts.largest
       pub goes : Continues (SendsWithAck size (counted_if packet.eliciting size) space packet.number
           packet.ranges.items) old new
 
     -- a packet is packed with these ranges
     pub record PacksPacket (from : End) (space : SpaceId) (size : ℕ) (eliciting : Bool) (checked : Option ℕ)
-        (ranges : List (ℕ × ℕ)) (packet : WirePacket) (items : Vec ℕ) (window : Option ℕ) : Type 0 where
+        (ranges : List (ℕ × ℕ)) (delay : ℕ) (packet : WirePacket) (items : Vec ℕ) (window : Option ℕ) : Type 0 where
       pub sender : packet.from ≡ from
       pub there : packet.space ≡ space
       pub sized : packet.size ≡ size
       pub told : items.items ≡ packet.items.items
       pub acks : packet.ranges.items ≡ ranges
+      pub delays : packet.delay ≡ delay
       pub elicits : packet.eliciting ≡ eliciting
       pub window_is : window ≡ checked
       pub goes : Continues (SendsNumber 0 (counted_if eliciting size) space packet.number) old new
 
-    abbrev pub PackTurn : End → SpaceId → ℕ → Bool → Option ℕ → List (ℕ × ℕ) → Outgoing → Type 0
-    PackTurn from space size eliciting checked ranges (outgoing.Sent packet items window) =
-        PacksPacket from space size eliciting checked ranges packet items window
-    PackTurn from space size eliciting checked ranges other = Continues GoesOnQuietly old new
+    abbrev pub PackTurn : End → SpaceId → ℕ → Bool → Option ℕ → List (ℕ × ℕ) → ℕ → Outgoing → Type 0
+    PackTurn from space size eliciting checked ranges delay (outgoing.Sent packet items window) =
+        PacksPacket from space size eliciting checked ranges delay packet items window
+    PackTurn from space size eliciting checked ranges delay other = Continues GoesOnQuietly old new
 
-    abbrev pub SendTurn : End → SpaceId → ℕ → Result Outgoing SenderError → Type 0
-    SendTurn from space size (Ok (outgoing.Sent packet items window)) =
-        SendsPacket from space size packet items window
-    SendTurn from space size other = Continues GoesOnQuietly old new
+    abbrev pub SendTurn : End → SpaceId → ℕ → ℕ → Result Outgoing SenderError → Type 0
+    SendTurn from space now size (Ok (outgoing.Sent packet items window)) =
+        SendsPacket from space now size packet items window
+    SendTurn from space now size other = Continues GoesOnQuietly old new
 
     -- a packet is new: its items are delivered, and its ACK frame is not refused for what it says
     pub record TakesPacket (packet : WirePacket) (items : Vec ℕ) (acked : AckOutcome) : Type 0 where
@@ -112,14 +117,14 @@ module _ {F Q R C K S M P : Type 0} {f : _} {c : _} {q : _} {m : _} {r : _} (old
     IfNew packet other = Unit {0}
 
     -- a packet arrives
-    pub record HearsPacket (packet : WirePacket) (fate : Fate) : Type 0 where
-      pub goes : Continues (HearsNumber packet.size packet.space packet.number (reply_of fate)
+    pub record HearsPacket (packet : WirePacket) (now : ℕ) (fate : Fate) : Type 0 where
+      pub goes : Continues (HearsNumber now packet.size packet.space packet.number (reply_of fate)
           (ends_by_fate packet.space fate)) old new
       pub takes : IfNew packet fate
 
-    abbrev pub HearTurn : WirePacket → Result Fate SenderError → Type 0
-    HearTurn packet (Ok fate) = HearsPacket packet fate
-    HearTurn packet (Err refusal) = Continues GoesOnQuietly old new
+    abbrev pub HearTurn : WirePacket → ℕ → Result Fate SenderError → Type 0
+    HearTurn packet now (Ok fate) = HearsPacket packet now fate
+    HearTurn packet now (Err refusal) = Continues GoesOnQuietly old new
 
 -- the turn of one end, while the other does nothing
 abbrev pub TurnsAt : {A : Type 0} → End → (A → A → Type 0) → A → A → A → A → Type 0

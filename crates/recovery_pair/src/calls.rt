@@ -54,7 +54,8 @@ pub(crate) fn frame<F, R>(
 where
     F: ControllerFactory,
     R: Rng + Drop,
-    ensures { IfOk result (λ frame. IsFrameFor space sender.now frame.ranges.items) }
+    ensures { IfOk result
+        (λ frame. IsFrameFor space now sender.now frame.ranges.items frame.delay) }
 {
     let Some(here) = sender.recovery().space(space) else {
         return Err(SenderError::Event(Refusal::SpaceDiscarded));
@@ -227,8 +228,8 @@ pub(crate) fn hear<F, R>(
 where
     F: ControllerFactory,
     R: Rng + Drop,
-    ensures goes { Continues (HearsNumber 0 space number (heard_of result) no_numbers) sender.old
-        sender.new }
+    ensures goes { Continues (HearsNumber now 0 space number (heard_of result) no_numbers)
+        sender.old sender.new }
     ensures timer { KeepsTimer sender.old sender.new }
 {
     let received = Event::Received {

@@ -124,7 +124,7 @@ where
         now: Instant,
         size: u16,
     ) -> Result<Outgoing, SenderError>
-        ensures goes { SendTurn self.old.sender self.new.sender from space size result }
+        ensures goes { SendTurn self.old.sender self.new.sender from space now size result }
         ensures waits { SendWaits self.old.waiting.items self.new.waiting.items space result }
         ensures permits { PermitsOutcome space now size result self.old.sender }
         ensures timer { KeepsTimer self.old.sender self.new.sender }
@@ -165,7 +165,7 @@ where
     ) -> Outgoing
         requires room { vec_len self.old.waiting < vec_capacity self.old.waiting }
         ensures goes { PackTurn self.old.sender self.new.sender from space size eliciting window
-            ack.ranges.items result }
+            ack.ranges.items ack.delay result }
         ensures waits { PackWaits self.old.waiting.items self.new.waiting.items space result }
         ensures timer { KeepsTimer self.old.sender self.new.sender }
     {
@@ -248,7 +248,7 @@ where
         packet: &WirePacket,
         now: Instant,
     ) -> Result<Fate, SenderError>
-        ensures goes { HearTurn self.old.sender self.new.sender packet.now result }
+        ensures goes { HearTurn self.old.sender self.new.sender packet.now now result }
         ensures waits { LosesNone self.old.waiting.items self.new.waiting.items }
         ensures timer { KeepsTimer self.old.sender self.new.sender }
     {

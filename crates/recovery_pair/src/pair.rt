@@ -58,7 +58,7 @@ fn send_from<F, R>(
 where
     F: ControllerFactory,
     R: Rng + Drop,
-    ensures goes { TurnsAt end (λ old new. SendTurn old new end space size result)
+    ensures goes { TurnsAt end (λ old new. SendTurn old new end space now size result)
         client.old.sender server.old.sender client.new.sender server.new.sender }
     ensures waits { TurnsAt end (λ old new. SendWaits old new space result)
         client.old.waiting.items server.old.waiting.items client.new.waiting.items
@@ -86,7 +86,7 @@ fn hear_at<F, R>(
 where
     F: ControllerFactory,
     R: Rng + Drop,
-    ensures goes { TurnsAt to (λ old new. HearTurn old new packet.now result)
+    ensures goes { TurnsAt to (λ old new. HearTurn old new packet.now now result)
         client.old.sender server.old.sender client.new.sender server.new.sender }
     ensures waits { TurnsAt to (λ old new. LosesNone old new)
         client.old.waiting.items server.old.waiting.items client.new.waiting.items
@@ -219,12 +219,14 @@ where
             Ok(Outgoing::Sent(packet, items, window)) => {
                 let number = packet.number;
                 let eliciting = packet.eliciting;
+                let delay = packet.delay;
                 self.wire.push_reserved(packet);
                 Ok(PairAnswer::Sent {
                     number,
                     items,
                     eliciting,
                     window,
+                    delay,
                 })
             }
             Ok(Outgoing::Nothing) => Ok(PairAnswer::Nothing),

@@ -163,6 +163,8 @@ pub enum PairAnswer {
         /// The congestion window in bytes for which it was checked. `None` if none was: it does not count in flight, or
         /// a probe was due in its space (RFC 9002, 7 and 7.5).
         window: Option<u64>,
+        /// The ACK delay of its ACK frame, if it has one (RFC 9000, 13.2.5).
+        delay: Duration,
     },
     /// A packet arrived.
     Arrived {

@@ -22,5 +22,5 @@ IsAnsweredSend log end space answer = Unit {0}
 
 abbrev pub SendsWhatWaits : PairLog → PairEvent → Type 0
 SendsWhatWaits log (Send end space now size, answer) = IsAnsweredSend log end space answer
-SendsWhatWaits log (step, Ok (Sent number items eliciting window)) = ⊥
+SendsWhatWaits log (step, Ok (Sent number items eliciting window delay)) = ⊥
 SendsWhatWaits log event = Unit {0}

@@ -8,6 +8,6 @@ use Rattle.recovery_pair.specs.Flights.{flight}
 use Rattle.recovery_pair.specs.Logs.{PairEvent, PairLog}
 
 abbrev pub SendsWithinWindow : PairLog → PairEvent → Type 0
-SendsWithinWindow log (Send end space now size, Ok (Sent number items eliciting (Some window))) =
+SendsWithinWindow log (Send end space now size, Ok (Sent number items eliciting (Some window) delay)) =
     flight end log + size ≤ window
 SendsWithinWindow log event = Unit {0}

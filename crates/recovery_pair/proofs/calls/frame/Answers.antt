@@ -1,4 +1,5 @@
 use Rattle.std.proofs.Common.{◌-◌, ap, ◌∙◌, arith}
+use Rattle.recovery_acks.specs.Acks.{delay_at}
 use Rattle.recovery_spaces.specs.Spaces.{acks_of}
 use Rattle.recovery_sender.proofs.CheckLaws.{kept_here}
 use Rattle.recovery_pair.proofs.FrameLaws.{frame_for, frame_step, some_end}
@@ -28,9 +29,10 @@ loop-at-preserved g c =
     }
 
 pub returns : goal.returns
-returns g c = frame_for c.args.space c.args.sender.now c.as_slice-all.result.now c.loop-at.at c.loop-at.ranges.items
-    c.in-Some.here.now c.loop-at.invariant.listed c.loop-at-test.false
+returns g c = frame_for c.args.space c.args.now c.args.sender.now c.as_slice-all.result.now c.loop-at.at
+    c.loop-at.ranges.items c.ack_delay.result c.in-Some.here.now c.loop-at.invariant.listed c.loop-at-test.false
     (rw (c.as_slice-all.ensures.value ∙ c.iter.ensures.rest) c.iter.ensures.apart)
     (c.as_slice-all.ensures.value ∙ c.iter.ensures.rest ∙ c.ranges-2.ensures.value
     ∙ ap (λ space. (acks_of space).ranges) c.here.view_is)
     (kept_here _ _ _ (rw c.recovery.ensures at c.in-Some.ensures)).1
+    (c.ack_delay.ensures ∙ ap (λ space. delay_at c.args.now (acks_of space).counts.largest) c.here.view_is)

@@ -3,7 +3,7 @@ use Rattle.recovery_pair.proofs.TurnLaws.{came_turn, heard_turn}
 use Rattle.recovery_pair.proofs.endpoint.Endpoint.hear.Goals as goal
 
 pub returns-in-Ok-Some-clause-goes : goal.returns-in-Ok-Some-clause-goes
-returns-in-Ok-Some-clause-goes g c = heard_turn c.args.packet.now c.in-Ok.items c.hear_ack-acked.result
+returns-in-Ok-Some-clause-goes g c = heard_turn c.args.now c.args.packet.now c.in-Ok.items c.hear_ack-acked.result
     c.args.self.now.sender
     c.datagram.new.sender c.hear.new.sender c.hear_ack-acked.new.sender c.plan_ack.new.self.sender
     (c.in-Ok.ensures ∙ c.deref.ensures.value) c.in-Ok-datagram.ensures.goes
@@ -13,7 +13,7 @@ returns-in-Ok-Some-clause-goes g c = heard_turn c.args.packet.now c.in-Ok.items 
 
 pub returns-in-Ok-None-clause-goes : goal.returns-in-Ok-None-clause-goes
 returns-in-Ok-None-clause-goes g c = record {
-  goes = came_turn c.args.packet.now.size c.args.packet.now.space c.args.packet.now.number (Ok false)
+  goes = came_turn c.args.now c.args.packet.now.size c.args.packet.now.space c.args.packet.now.number (Ok false)
       c.args.self.now.sender c.datagram.new.sender c.hear.new.sender c.in-Ok-datagram.ensures.goes
       (rw c.in-Ok-None.field-0-is at c.in-Ok-None.ensures.goes);
   takes = tt;
@@ -21,7 +21,8 @@ returns-in-Ok-None-clause-goes g c = record {
 
 pub returns-in-Err-hear-clause-goes : goal.returns-in-Err-hear-clause-goes
 returns-in-Err-hear-clause-goes g c = record {
-  goes = came_turn c.args.packet.now.size c.args.packet.now.space c.args.packet.now.number (Err c.in-Err-hear.refused)
+  goes = came_turn c.args.now c.args.packet.now.size c.args.packet.now.space c.args.packet.now.number (Err
+      c.in-Err-hear.refused)
       c.args.self.now.sender c.datagram.new.sender c.hear.new.sender c.in-Ok-datagram.ensures.goes
       c.in-Err-hear.ensures.goes;
   takes = tt;

@@ -14,6 +14,7 @@ returns-in-Ok-track-clause-goes g c =
       sized = refl;
       told = cc (first, second);
       acks = refl;
+      delays = refl;
       elicits = refl;
       window_is = refl;
       goes = quietly_sends (counted_if c.args.eliciting c.args.size) c.args.space c.in-Ok-track.number

@@ -7,8 +7,10 @@ use Rattle.recovery_pair.proofs.endpoint.Endpoint.send.Goals as goal
 pub returns-clause-goes : goal.returns-clause-goes
 returns-clause-goes g c =
     let transmits = rw c.in-Ok-Transmitted.field-0-is at c.in-Ok-Transmitted.ensures in
-    packed_turn c.args.from c.args.space c.args.size c.has_items-eliciting.result c.window_checked-window.result
-    c.in-Ok.ack.ranges.items c.args.self.now.sender c.transmit.new.sender c.pack.new.self.sender c.pack.result
+    packed_turn c.args.from c.args.space c.args.now c.args.size c.has_items-eliciting.result
+    c.window_checked-window.result
+    c.in-Ok.ack.ranges.items c.in-Ok.ack.delay c.args.self.now.sender c.transmit.new.sender c.pack.new.self.sender
+    c.pack.result
     c.in-Ok.ensures (rw c.window_checked-window.ensures transmits.fits) transmits.goes c.pack.ensures.goes
 
 pub returns-clause-permits : goal.returns-clause-permits
@@ -19,7 +21,7 @@ returns-clause-permits g c =
           (said_by c.args.self.now.sender c.args.space c.args.now c.args.size c.has_items-eliciting.result)
           (Ok c.pack.result)) c.window_checked-window.ensures
           (packed_agrees c.transmit.new.sender c.pack.new.self.sender c.args.from c.args.space c.args.size
-          c.has_items-eliciting.result c.window_checked-window.result c.in-Ok.ack.ranges.items _
+          c.has_items-eliciting.result c.window_checked-window.result c.in-Ok.ack.ranges.items c.in-Ok.ack.delay _
           c.reserve.new.self.items c.pack.new.self.waiting.items c.pack.result (sym transmits.said) c.pack.ensures.goes
           c.pack.ensures.waits),
     )

@@ -17,14 +17,14 @@ returns-in-Ok-Sent-clause-keeps g c = step_keeps c.args.self.now.client.sender c
     c.args.self.now.client.waiting.items
     c.args.self.now.server.waiting.items c.send_from.new.client.waiting.items c.send_from.new.server.waiting.items
     (Send c.args.end c.args.space c.args.now c.args.size) (Ok (Sent c.in-Ok-Sent.packet.number c.in-Ok-Sent.items
-    c.in-Ok-Sent.packet.eliciting c.in-Ok-Sent.window))
+    c.in-Ok-Sent.packet.eliciting c.in-Ok-Sent.window c.in-Ok-Sent.packet.delay))
     (send_turn c.args.end c.args.space c.args.now c.args.size c.in-Ok-Sent.packet c.in-Ok-Sent.items c.in-Ok-Sent.window
     c.args.self.now.client.sender c.args.self.now.server.sender c.send_from.new.client.sender
     c.send_from.new.server.sender c.args.self.now.wire.items c.push_reserved.new.self.items
     (rw c.in-Ok.ensures.items at c.push_reserved.ensures.items)
     (rw c.in-Ok-Sent.field-0-is at c.in-Ok-Sent.ensures.goes))
     tt (sent_queue c.args.end c.args.space c.args.now c.args.size c.in-Ok-Sent.packet.number c.in-Ok-Sent.items
-    c.in-Ok-Sent.packet.eliciting c.in-Ok-Sent.window
+    c.in-Ok-Sent.packet.eliciting c.in-Ok-Sent.window c.in-Ok-Sent.packet.delay
     c.args.self.now.client.waiting.items
     c.args.self.now.server.waiting.items c.send_from.new.client.waiting.items c.send_from.new.server.waiting.items
     (rw c.in-Ok-Sent.field-0-is at c.in-Ok-Sent.ensures.waits))
@@ -114,7 +114,7 @@ returns-in-Err-clause-keeps g c = step_keeps c.args.self.now.client.sender c.arg
 pub returns-in-Ok-Sent-clause-permits : goal.returns-in-Ok-Sent-clause-permits
 returns-in-Ok-Sent-clause-permits g c = permits_at c.args.end c.args.space c.args.now c.args.size
     (Ok (outgoing.Sent c.in-Ok-Sent.packet c.in-Ok-Sent.items c.in-Ok-Sent.window)) (Ok (Sent c.in-Ok-Sent.packet.number
-    c.in-Ok-Sent.items c.in-Ok-Sent.packet.eliciting c.in-Ok-Sent.window))
+    c.in-Ok-Sent.items c.in-Ok-Sent.packet.eliciting c.in-Ok-Sent.window c.in-Ok-Sent.packet.delay))
     c.args.self.now.client.sender c.args.self.now.server.sender (λ in_flight checked said agrees. agrees)
     (rw c.in-Ok-Sent.field-0-is at c.in-Ok-Sent.ensures.permits)
 
