@@ -97,9 +97,16 @@ fn establish(steps: &mut Vec<PairStep>) {
     }
 }
 
-/// Runs steps from a new pair. Returns what is seen of the answers after the four of `establish`, and how many packets
-/// were sent.
-fn seen_in(alloc: Global, steps: Vec<PairStep>) -> Option<(Vec<Seen>, usize)> {
+/// Runs steps from a new pair. Returns the pair and the answers.
+fn answers_to(
+    alloc: Global,
+    steps: Vec<PairStep>,
+) -> Option<
+    (
+        Pair<NewRenoConfig, Pcg32>,
+        Vec<Result<PairAnswer, SenderError>>,
+    ),
+> {
     let said = Vec::with_capacity(alloc, steps.len()).ok()?;
     let client = EndConfig {
         config: settings(8),
@@ -109,9 +116,15 @@ fn seen_in(alloc: Global, steps: Vec<PairStep>) -> Option<(Vec<Seen>, usize)> {
         config: settings(8),
         rng: words(),
     };
-    let pair: Pair<NewRenoConfig, Pcg32> = Pair::new(alloc, client, server, at(0)).ok()?;
+    let pair = Pair::new(alloc, client, server, at(0)).ok()?;
     let mut steps = steps;
-    let (pair, said) = run_over(pair, &mut steps, said);
+    Some(run_over(pair, &mut steps, said))
+}
+
+/// Runs steps from a new pair. Returns what is seen of the answers after the four of `establish`, and how many packets
+/// were sent.
+fn seen_in(alloc: Global, steps: Vec<PairStep>) -> Option<(Vec<Seen>, usize)> {
+    let (pair, said) = answers_to(alloc, steps)?;
     let mut seen = Vec::new(alloc);
     for answer in said.iter().skip(4) {
         seen.push(seen_of(answer)).ok()?;
@@ -119,6 +132,19 @@ fn seen_in(alloc: Global, steps: Vec<PairStep>) -> Option<(Vec<Seen>, usize)> {
     let sent = pair.wire.len();
     drop((pair, said));
     Some((seen, sent))
+}
+
+/// Runs steps from a new pair. Returns what the answers say of the packets that were sent.
+fn checked_in(alloc: Global, steps: Vec<PairStep>) -> Option<Vec<Checked>> {
+    let (pair, said) = answers_to(alloc, steps)?;
+    let mut checked = Vec::new(alloc);
+    for answer in said.iter() {
+        if let Some(one) = checked_of(answer) {
+            checked.push(one).ok()?;
+        }
+    }
+    drop((pair, said));
+    Some(checked)
 }
 
 /// Three packets: the second is dropped, the third arrives first, and the first twice. The ACK of 0 and 2 arrives 20 ms
@@ -209,4 +235,73 @@ fn probes(rt: HostRuntime) {
         None => false,
     };
     assert!(rt; is_right, "a transfer with a probe");
+}
+
+/// What a test sees of a packet that was sent: whether it is ack-eliciting, the window for which it was checked, and
+/// its ACK delay in milliseconds.
+#[derive(Clone, Copy, PartialEq, Eq)]
+struct Checked {
+    eliciting: bool,
+    window: Option<u64>,
+    delay: u128,
+}
+
+fn checked_of(answer: &Result<PairAnswer, SenderError>) -> Option<Checked> {
+    match answer {
+        Ok(
+            PairAnswer::Sent {
+                eliciting,
+                window,
+                delay,
+                ..
+            },
+        ) => Some(Checked {
+            eliciting: *eliciting,
+            window: *window,
+            delay: delay.as_nanos() / 1_000_000,
+        }),
+        _ => None,
+    }
+}
+
+/// The first packet is checked for the initial window of ten datagrams of 1200 bytes (RFC 9002, 7.2). A probe is not
+/// checked (7.5), and neither is an ACK alone, which does not count in flight (2). That ACK is sent 25 ms after the
+/// packet arrived (RFC 9000, 13.2.5).
+#[test]
+fn says_what_was_checked(rt: HostRuntime) {
+    let alloc = rt.alloc();
+    let mut steps = Vec::new(alloc);
+    let _room = steps.push(hand(alloc, 7));
+    let _room = steps.push(local(End::Client, LocalStep::HandshakeConfirmed));
+    let _room = steps.push(send(End::Client, 0));
+    let expire = LocalStep::Expire { now: at(1_024_000) };
+    let _room = steps.push(local(End::Client, expire));
+    let _room = steps.push(send(End::Client, 1_024_000));
+    let _room = steps.push(local(End::Server, LocalStep::AddressValidated));
+    let _room = steps.push(arrive(1, 1_034_000));
+    let late = LocalStep::Late { now: at(1_059_000) };
+    let _room = steps.push(local(End::Server, late));
+    let _room = steps.push(send(End::Server, 1_059_000));
+    let wanted = [
+        Checked {
+            eliciting: true,
+            window: Some(12_000),
+            delay: 0,
+        },
+        Checked {
+            eliciting: true,
+            window: None,
+            delay: 0,
+        },
+        Checked {
+            eliciting: false,
+            window: None,
+            delay: 25,
+        },
+    ];
+    let is_right = match checked_in(alloc, steps) {
+        Some(checked) => checked.as_slice() == wanted.as_slice(),
+        None => false,
+    };
+    assert!(rt; is_right, "the windows and ACK delays of three packets");
 }
