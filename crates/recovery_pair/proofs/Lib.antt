@@ -1,6 +1,5 @@
 pub mod BoundLaws
 pub mod FlightLaws
-pub mod FlightRows
 pub mod FrameLaws
 pub mod GoingLaws
 pub mod HonestLaws
@@ -8,6 +7,7 @@ pub mod LargestLaws
 pub mod LogLaws
 pub mod NewLaws
 pub mod PacketLaws
+pub mod PairRows
 pub mod PermitLaws
 pub mod QueueLaws
 pub mod QuietLaws

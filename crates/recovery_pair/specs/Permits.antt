@@ -1,6 +1,9 @@
 -- A datagram is sent or held back as the sender says of it (`transmit`; RFC 9000, 8.1; RFC 9002, 7).
-use Rattle.std.specs.Prelude.{◌≡◌, ℕ, ◌+◌, ◌≤◌, Bool, Option, None, Some, Result, Ok, if◌then◌else◌}
+use Rattle.std.specs.Prelude.{◌≡◌, ℕ, ◌+◌, ◌≤◌, Bool, false, Option, None, Some, Result, Ok, if◌then◌else◌}
 use Rattle.recovery_base.specs.declared.below.SpaceId.{SpaceId}
+use Rattle.recovery_losses.specs.Variables.{is_probe_due}
+use Rattle.recovery_spaces.specs.Discarded.{is_discarded}
+use Rattle.recovery_spaces.specs.Spaces.{space_of}
 use Rattle.recovery_sender.specs.Calls.{bytes_in_flight, is_checked, transmit_reply, window_of}
 use Rattle.recovery_sender.specs.Senders.{state_in}
 use Rattle.recovery_sender.specs.declared.sender.Sender.{Sender}
@@ -12,18 +15,19 @@ use Rattle.recovery_pair.specs.declared.endpoint.Outgoing.TheVariants as outgoin
 use Rattle.recovery_pair.specs.declared.steps.End.{End}
 use Rattle.recovery_pair.specs.declared.steps.End.TheVariants.{Client, Server}
 use Rattle.recovery_pair.specs.declared.steps.PairAnswer.{PairAnswer}
-use Rattle.recovery_pair.specs.declared.steps.PairAnswer.TheVariants.{Failed, Held, Sent}
+use Rattle.recovery_pair.specs.declared.steps.PairAnswer.TheVariants.{Failed, Held, Nothing, Sent}
 use Rattle.recovery_pair.specs.declared.steps.PairStep.{PairStep}
 use Rattle.recovery_pair.specs.declared.steps.PairStep.TheVariants.{Send}
 
-module _ (in_flight : Bool) (checked : Option ℕ) (said : Result Transmission SenderError) where
+module _ (Idle : Type 0) (in_flight : Bool) (checked : Option ℕ) (said : Result Transmission SenderError) where
   -- what is sent was permitted, as what counts in flight or not, and with the window that was checked; what is held
-  -- back was not permitted, for the reason that is reported
+  -- back was not permitted, for the reason that is reported; and there is nothing to send only if the sender is idle
   abbrev pub AgreesWith : Result PairAnswer SenderError → Type 0
   AgreesWith (Ok (Sent number items eliciting window delay)) =
       (said ≡ Ok Transmitted) × (eliciting ≡ in_flight) × (window ≡ checked)
   AgreesWith (Ok (Failed refusal)) = said ≡ Ok Transmitted
   AgreesWith (Ok (Held held)) = (said ≡ Ok held) × (held ≡ Transmitted → ⊥)
+  AgreesWith (Ok Nothing) = Idle
   AgreesWith answer = Unit {0}
 
   -- the answer that an outcome gives, as far as it matters here
@@ -32,6 +36,7 @@ module _ (in_flight : Bool) (checked : Option ℕ) (said : Result Transmission S
       (said ≡ Ok Transmitted) × (packet.eliciting ≡ in_flight) × (window ≡ checked)
   AgreesAlready (Ok (outgoing.Failed refusal)) = said ≡ Ok Transmitted
   AgreesAlready (Ok (outgoing.Held held)) = (said ≡ Ok held) × (held ≡ Transmitted → ⊥)
+  AgreesAlready (Ok outgoing.Nothing) = Idle
   AgreesAlready outcome = Unit {0}
 
 module _ {F Q R C K S M P : Type 0} {f : _} {c : _} {q : _} {m : _} {r : _} where
@@ -50,14 +55,22 @@ module _ {F Q R C K S M P : Type 0} {f : _} {c : _} {q : _} {m : _} {r : _} wher
   FitsChecked sender size None = Unit {0}
   FitsChecked sender size (Some window) = bytes_in_flight (state_in sender) + size ≤ window
 
+  -- in a space with keys no probe is due, and no contents of lost packets wait to be sent again (RFC 9000, 13.3)
+  abbrev pub IsIdle : Sender F Q R C K S M P f c q m r → SpaceId → Type 0
+  IsIdle sender space = is_discarded space (state_in sender).discarded ≡ false
+      → (is_probe_due sender.variables space ≡ false)
+      × ((space_of space (state_in sender).spaces).pending ≡ q.words.empty)
+
   abbrev pub PermitsOutcome : SpaceId → ℕ → ℕ → Result Outgoing SenderError → Sender F Q R C K S M P f c q m r → Type 0
   PermitsOutcome space now size outcome sender = (in_flight : Bool)
-      × AgreesAlready in_flight (window_checked sender space in_flight) (said_by sender space now size in_flight)
+      × AgreesAlready (IsIdle sender space) in_flight (window_checked sender space in_flight) (said_by sender space now
+      size in_flight)
       outcome
 
   abbrev pub PermitsAnswer : SpaceId → ℕ → ℕ → Result PairAnswer SenderError → Sender F Q R C K S M P f c q m r → Type 0
   PermitsAnswer space now size answer sender = (in_flight : Bool)
-      × AgreesWith in_flight (window_checked sender space in_flight) (said_by sender space now size in_flight) answer
+      × AgreesWith (IsIdle sender space) in_flight (window_checked sender space in_flight) (said_by sender space now
+      size in_flight) answer
 
   -- of this endpoint
   abbrev pub HoldsAt : End → (Sender F Q R C K S M P f c q m r → Type 0) → Sender F Q R C K S M P f c q m r

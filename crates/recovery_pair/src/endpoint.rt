@@ -3,7 +3,7 @@ ghost use Rattle.std.specs.Prelude.{◌≡◌, ◌+◌, ◌<◌, ◌≤◌, ℕ,
 ghost use Rattle.std.specs.Vec.{vec_len, vec_capacity};
 ghost use Rattle.recovery_pair.specs.Pasts.{Continues, GoesOn, GoesOnQuietly};
 ghost use Rattle.recovery_pair.specs.Turns.{HearTurn, PackTurn, SendTurn, local_turn};
-ghost use Rattle.recovery_pair.specs.Permits.{PermitsOutcome};
+ghost use Rattle.recovery_pair.specs.Permits.{IsIdle, PermitsOutcome};
 ghost use Rattle.recovery_pair.specs.Timed.{KeepsTimer};
 ghost use Rattle.recovery_pair.specs.Promises.Locals.{IsDone, IsDoneOrNothing, IsLocalAnswer};
 ghost use Rattle.recovery_pair.specs.Waits.{GainsOne, HandWaits, IsPlaceInQueue, LocalWaits, LosesNone, LosesOne, PackWaits, SendWaits, waiting_in};
@@ -102,7 +102,8 @@ where
 
     /// Returns whether an ack-eliciting packet is to be sent in a space: a probe is due, or items wait.
     fn has_items(&self, space: SpaceId) -> bool
-        ensures { result ≡ false
+        ensures idle { result ≡ false → IsIdle self.now.sender space }
+        ensures waits { result ≡ false
             → (measure : List ℕ → ℕ) → waiting_in measure space self.now.waiting.items ≡ 0 }
     {
         if self.sender.variables().is_probe_due(space) || place_of(&self.waiting, space).is_some() {

@@ -115,36 +115,37 @@ pub returns-in-Ok-Sent-clause-permits : goal.returns-in-Ok-Sent-clause-permits
 returns-in-Ok-Sent-clause-permits g c = permits_at c.args.end c.args.space c.args.now c.args.size
     (Ok (outgoing.Sent c.in-Ok-Sent.packet c.in-Ok-Sent.items c.in-Ok-Sent.window)) (Ok (Sent c.in-Ok-Sent.packet.number
     c.in-Ok-Sent.items c.in-Ok-Sent.packet.eliciting c.in-Ok-Sent.window c.in-Ok-Sent.packet.delay))
-    c.args.self.now.client.sender c.args.self.now.server.sender (λ in_flight checked said agrees. agrees)
+    c.args.self.now.client.sender c.args.self.now.server.sender (λ Idle in_flight checked said agrees. agrees)
     (rw c.in-Ok-Sent.field-0-is at c.in-Ok-Sent.ensures.permits)
 
 pub returns-in-Ok-Nothing-clause-permits : goal.returns-in-Ok-Nothing-clause-permits
 returns-in-Ok-Nothing-clause-permits g c = permits_at c.args.end c.args.space c.args.now c.args.size
     (Ok outgoing.Nothing) (Ok Nothing)
-    c.args.self.now.client.sender c.args.self.now.server.sender (λ in_flight checked said agrees. tt)
+    c.args.self.now.client.sender c.args.self.now.server.sender (λ Idle in_flight checked said agrees. agrees)
     (rw c.in-Ok-Nothing.field-0-is at c.in-Ok-Nothing.ensures.permits)
 
 pub returns-in-Ok-Held-clause-permits : goal.returns-in-Ok-Held-clause-permits
 returns-in-Ok-Held-clause-permits g c = permits_at c.args.end c.args.space c.args.now c.args.size
     (Ok (outgoing.Held c.in-Ok-Held.held)) (Ok (Held c.in-Ok-Held.held))
-    c.args.self.now.client.sender c.args.self.now.server.sender (λ in_flight checked said agrees. agrees)
+    c.args.self.now.client.sender c.args.self.now.server.sender (λ Idle in_flight checked said agrees. agrees)
     (rw c.in-Ok-Held.field-0-is at c.in-Ok-Held.ensures.permits)
 
 pub returns-in-Ok-Failed-clause-permits : goal.returns-in-Ok-Failed-clause-permits
 returns-in-Ok-Failed-clause-permits g c = permits_at c.args.end c.args.space c.args.now c.args.size
     (Ok (outgoing.Failed c.in-Ok-Failed.refused)) (Ok (Failed c.in-Ok-Failed.refused))
-    c.args.self.now.client.sender c.args.self.now.server.sender (λ in_flight checked said agrees. agrees)
+    c.args.self.now.client.sender c.args.self.now.server.sender (λ Idle in_flight checked said agrees. agrees)
     (rw c.in-Ok-Failed.field-0-is at c.in-Ok-Failed.ensures.permits)
 
 pub returns-in-Err-send_from-clause-permits : goal.returns-in-Err-send_from-clause-permits
 returns-in-Err-send_from-clause-permits g c = permits_at c.args.end c.args.space c.args.now c.args.size
     (Err c.in-Err-send_from.refused) (Err c.in-Err-send_from.refused)
-    c.args.self.now.client.sender c.args.self.now.server.sender (λ in_flight checked said agrees. tt)
+    c.args.self.now.client.sender c.args.self.now.server.sender (λ Idle in_flight checked said agrees. tt)
     c.in-Err-send_from.ensures.permits
 
 pub returns-in-Err-clause-permits : goal.returns-in-Err-clause-permits
 returns-in-Err-clause-permits g c = permits_none c.args.end c.args.space c.args.now c.args.size
-    (Err (Event NoMemory)) c.args.self.now.client.sender c.args.self.now.server.sender (λ in_flight checked said. tt)
+    (Err (Event NoMemory)) c.args.self.now.client.sender c.args.self.now.server.sender (λ Idle in_flight checked said.
+    tt)
 
 pub returns-in-Ok-Sent-clause-timer_set : goal.returns-in-Ok-Sent-clause-timer_set
 returns-in-Ok-Sent-clause-timer_set g c = timers_at c.args.end c.args.self.now.client.sender

@@ -1,20 +1,25 @@
--- Worked rows of what is in flight, computed: with the right log each promise holds, and with a wrong one it does not.
--- Nothing rests on them.
+-- Worked rows of what is in flight, of ACK delays and of what is sent, computed: with the right log each promise holds,
+-- and with a wrong one it does not. Nothing rests on them.
 use Rattle.std.proofs.Common.{◌≡◌, ◌≤◌, ℕ, true, false, [], ◌∷◌, Option, None, Some, Ok, Err, refl, arith}
+use Rattle.std.specs.Prelude.{if◌then◌else◌, nat_eq}
+use Rattle.std.specs.Set.{is_member}
 use Rattle.std.specs.Global.{Vec}
 use Rattle.recovery_base.specs.declared.below.SpaceId.TheVariants.{Data, Initial}
 use Rattle.recovery_sender.specs.declared.sender.acks.Acknowledged.{Acknowledged}
 use Rattle.recovery_sender.specs.declared.sender.losses.Losses.{Losses}
 use Rattle.recovery_sender.specs.declared.sender.probes.Timeout.TheVariants.{Lost}
+use Rattle.recovery_pair.specs.declared.steps.AckOutcome.{AckOutcome}
 use Rattle.recovery_pair.specs.declared.steps.AckOutcome.TheVariants.{Taken}
 use Rattle.recovery_pair.specs.declared.steps.End.TheVariants.{Client, Server}
 use Rattle.recovery_pair.specs.declared.steps.Fate.TheVariants.{New}
-use Rattle.recovery_pair.specs.declared.steps.LocalStep.TheVariants.{Discard, Expire}
-use Rattle.recovery_pair.specs.declared.steps.PairAnswer.TheVariants.{Arrived, Done, Expired, Sent}
+use Rattle.recovery_pair.specs.declared.steps.LocalStep.TheVariants.{Discard, Expire, Hand}
+use Rattle.recovery_pair.specs.declared.steps.PairAnswer.TheVariants.{Arrived, Done, Expired, Nothing, Sent}
 use Rattle.recovery_pair.specs.declared.steps.PairStep.TheVariants.{Arrive, Local, Send}
 use Rattle.recovery_pair.specs.Flights.{flight, is_lost_in}
 use Rattle.recovery_pair.specs.Logs.{PairEvent, PairLog}
+use Rattle.recovery_pair.specs.Promises.Delays.{ReportsDelay}
 use Rattle.recovery_pair.specs.Promises.Excess.{ExceedsByProbes}
+use Rattle.recovery_pair.specs.Promises.Sends.{SendsWhatWaits}
 use Rattle.recovery_pair.specs.Promises.Window.{SendsWithinWindow}
 
 module _ (items : Vec ℕ) where
@@ -75,3 +80,41 @@ module _ (items : Vec ℕ) where
 
   exceeds_without_one : ¬ ExceedsByProbes (sent 1 (Some 1500) ∷ sent 0 (Some 1500) ∷ [])
   exceeds_without_one within = let most = within Client in absurd (omega (arith, most))
+
+-- ---- ACK delays, and what is sent
+
+module _ (items other : Vec ℕ) (outcome : AckOutcome) where
+  -- number 4 arrives at time 10, and number 3 at time 20
+  abbrev arrived : PairLog
+  arrived = (Arrive 1 20, Ok (Arrived Client Data 3 60 (New items outcome)))
+      ∷ (Arrive 0 10, Ok (Arrived Client Data 4 60 (New items outcome))) ∷ []
+
+  since_the_largest : ReportsDelay arrived (Send Client Data 25 60, Ok (Sent 0 items false None 15))
+  since_the_largest = refl
+
+  not_since_the_last : ¬ ReportsDelay arrived (Send Client Data 25 60, Ok (Sent 0 items false None 5))
+  not_since_the_last is = cc
+
+  a_nanosecond_longer : ¬ ReportsDelay arrived (Send Client Data 25 60, Ok (Sent 0 items false None 16))
+  a_nanosecond_longer is = cc
+
+  none_in_another_space : ReportsDelay arrived (Send Client Initial 25 60, Ok (Sent 0 items false None 0))
+  none_in_another_space = refl
+
+  -- a packet is handed over, and one is sent
+  abbrev one_sent : Vec ℕ → PairLog
+  one_sent these = (Send Client Data 5 60, Ok (Sent 0 these true None 0))
+      ∷ (Local Client (Hand Data items), Ok Done) ∷ []
+
+  all_is_sent : SendsWhatWaits (one_sent items) (Send Client Data 6 60, Ok Nothing)
+  all_is_sent measure = omega arith
+
+  one_more_waits :
+      ¬ SendsWhatWaits ((Local Client (Hand Data items), Ok Done) ∷ one_sent items) (Send Client Data 6 60, Ok Nothing)
+  one_more_waits sends = let most = sends (λ list. 1) in absurd (omega (arith, most))
+
+  other_items_are_not_enough : items.items ≡ 7 ∷ [] → other.items ≡ 8 ∷ []
+      → ¬ SendsWhatWaits (one_sent other) (Send Client Data 6 60, Ok Nothing)
+  other_items_are_not_enough these those sends =
+      let most = rw (these, those) at (sends (λ list. if is_member nat_eq list 7 then 1 else 0)) in
+      absurd (omega (arith, most))
