@@ -1,6 +1,5 @@
 -- The ACK delay that an endpoint reports is the time since it received the largest number of the space, as new (RFC
--- 9000,
--- 13.2.5). Before the first it is zero.
+-- 9000, 13.2.5). Before the first it is zero.
 use Rattle.std.specs.Prelude.{◌≡◌, ℕ, ◌&&◌, [], ◌∷◌, Option, None, Ok, if◌then◌else◌}
 use Rattle.recovery_acks.specs.Acks.{delay_at, largest_with}
 use Rattle.recovery_base.specs.declared.below.SpaceId.{SpaceId}

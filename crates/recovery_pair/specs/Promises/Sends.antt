@@ -1,6 +1,5 @@
 -- An endpoint sends what is passed to it. It has nothing to send in a space only once it has sent there no less than
--- was
--- passed to it, by every measure of the items of a packet: how many packets there are, how often an item occurs. An
+-- was passed to it, by every measure of the items of a packet: how many packets there are, how often an item occurs. An
 -- endpoint that drops one, sends other items, or sends nothing, breaks this.
 use Rattle.std.specs.Prelude.{ℕ, ◌≤◌, List, Result, Ok}
 use Rattle.recovery_base.specs.declared.below.SpaceId.{SpaceId}
