@@ -412,9 +412,23 @@ impl Recovery {
 
     /// Takes the retransmission queue of a space. Room for its items is allocated first, so that nothing has changed if
     /// that fails.
+    #[inline]
     pub(crate) fn take_pending(&mut self, space: SpaceId) -> Result<Answer, Refusal> {
         // SAFETY: the handle holds a recovery.
         let room = unsafe { ffi::recovery_ffi_pending_items(self.handle.get(), space as u8) };
+        if room > 0 {
+            return self.take_items(space, room);
+        }
+        let reply = self.reply_to(Event::TakePending { space });
+        match reply.kind {
+            ffi::ANSWER_QUEUE => Ok(Answer::Queue(Vec::new())),
+            _ => self.read(reply),
+        }
+    }
+
+    /// Takes a retransmission queue of this many items.
+    #[inline(never)]
+    fn take_items(&mut self, space: SpaceId, room: u64) -> Result<Answer, Refusal> {
         let items = with_room(room)?;
         let reply = self.reply_to(Event::TakePending { space });
         match reply.kind {

@@ -215,6 +215,7 @@ impl Acknowledged {
     }
 
     /// Fills the numbers of these packets, of which there are `count`.
+    #[inline(always)]
     fn number(&mut self, count: usize) -> Result<(), Refusal> {
         if self.numbers.capacity() < count {
             make_room(&mut self.numbers, count)?;
@@ -229,6 +230,7 @@ impl Acknowledged {
 
     /// Returns for how many words of packets there is room, and for how many lost numbers. A packet has its number, its
     /// item count and its items, and one more number in `numbers`.
+    #[inline(always)]
     fn rooms(&self) -> (u64, u64) {
         let packets = self.words.capacity().min(2 * self.numbers.capacity());
         (packets as u64, self.losses.numbers.capacity() as u64)
@@ -355,6 +357,7 @@ pub struct Sender {
 }
 
 /// Returns a frame in the library's form, to be processed if the answer fits.
+#[inline(always)]
 fn frame(ack: &Ack, told: &Acknowledged) -> ffi::AckFrame {
     let counts = ack.ecn.unwrap_or_default();
     let (packets_room, lost_room) = told.rooms();
@@ -843,6 +846,7 @@ impl Sender {
     ///
     /// # Errors
     /// Those of [`Sender::on_ack`]. Then nothing has changed, except that the vectors may be empty.
+    #[inline]
     pub fn on_ack_into(
         &mut self,
         space: SpaceId,
@@ -851,31 +855,53 @@ impl Sender {
         ranges: &[(u64, u64)],
         told: &mut Acknowledged,
     ) -> Result<(), SenderError> {
-        let one;
-        let given = if let &[(first, last)] = ranges {
+        let reply = match *ranges {
             // most frames have one range, which needs no vector
-            one = [ffi::AckRange { first, last }];
-            &one[..]
-        } else {
-            self.convert(ranges)?;
-            &self.ranges[..]
+            [(first, last)] => {
+                let one = [ffi::AckRange { first, last }];
+                self.take(space, now, &frame(ack, told), &one)
+            }
+            _ => self.take_ranges(space, now, ack, ranges, told)?,
         };
-        let mut frame = frame(ack, told);
-        let mut reply = self.take(space, now, &frame, given);
-        if reply.kind == ffi::ANSWER_NEEDS_ROOM {
-            told.make_room(reply.first, reply.second)?;
-            (frame.packets_room, frame.lost_room) = told.rooms();
-            reply = self.take(space, now, &frame, given);
-        }
-        expect(ffi::ANSWER_ACKNOWLEDGED, &reply)?;
-        if reply.second > 0 || reply.flag {
-            self.last_outcome(told)?;
-        } else {
+        if reply.kind == ffi::ANSWER_ACKNOWLEDGED && reply.second == 0 && !reply.flag {
             told.losses.be_none();
             told.ecn = EcnOutcome::Quiet;
-            self.packets(reply.first, told)?;
+            return Ok(self.packets(reply.first, told)?);
         }
-        Ok(())
+        self.take_rest(space, now, ack, ranges, told, reply)
+    }
+
+    /// Passes a frame with any ranges.
+    #[inline(never)]
+    fn take_ranges(
+        &mut self,
+        space: SpaceId,
+        now: Instant,
+        ack: &Ack,
+        ranges: &[(u64, u64)],
+        told: &Acknowledged,
+    ) -> Result<ffi::EncodedReply, Refusal> {
+        self.convert(ranges)?;
+        Ok(self.take(space, now, &frame(ack, told), &self.ranges))
+    }
+
+    /// Passes a frame again if its answer needs more room. Then reads an outcome that has more than packets.
+    #[inline(never)]
+    fn take_rest(
+        &mut self,
+        space: SpaceId,
+        now: Instant,
+        ack: &Ack,
+        ranges: &[(u64, u64)],
+        told: &mut Acknowledged,
+        mut reply: ffi::EncodedReply,
+    ) -> Result<(), SenderError> {
+        if reply.kind == ffi::ANSWER_NEEDS_ROOM {
+            told.make_room(reply.first, reply.second)?;
+            reply = self.take_ranges(space, now, ack, ranges, told)?;
+        }
+        expect(ffi::ANSWER_ACKNOWLEDGED, &reply)?;
+        Ok(self.last_outcome(told)?)
     }
 
     /// Stores ranges in the library's form.
@@ -1298,6 +1324,7 @@ impl Sender {
     }
 
     /// Reads the acknowledged packets into a vector if it has room for them. Returns how many words they take.
+    #[inline(always)]
     fn words(&self, into: &mut Vec<u64>) -> usize {
         into.clear();
         let (handle, out, room) = (self.recovery.handle(), into.as_mut_ptr(), into.capacity());
