@@ -52,6 +52,11 @@ abbrev pub AcceptsEvent : Engine → ItemEvent → Type 0
 AcceptsEvent (Alone recovery) event = Unit {0}
 AcceptsEvent (Sends sending) event = IsPassedThrough event
 
+-- a sender passes the event
+abbrev pub PassesEvent : Engine → ItemEvent → Type 0
+PassesEvent (Alone recovery) event = ⊥
+PassesEvent (Sends sending) event = IsPassedThrough event
+
 -- the promises of `LiveRecovery::apply` for an event and its reply, for every past
 pub record AppliesEvent {F Q R C K S M P : Type 0} {f : _} {c : _} {q : _} {m : _} {r : _}
     (old : Recovery F Q R C K S M P f c q m r) (event : Event Q S M P) (reply : History.Reply Q)

@@ -1,5 +1,5 @@
 //! The engine of a stack: a bare recovery, or one of a sender.
-ghost use Rattle.std.specs.Prelude.{◌≡◌, ◌≤◌, Decides, IfOk};
+ghost use Rattle.std.specs.Prelude.{◌≡◌, ◌≤◌, true, Decides, IfOk};
 ghost use Rattle.rand_core.specs.Steps.{stream_of, steps_u32};
 ghost use Rattle.recovery_base.specs.Units.{number_limit};
 ghost use Rattle.rand_pcg.specs.Pcg.{pcg32};
@@ -7,7 +7,7 @@ ghost use Rattle.quic_recovery.specs.State.{state_of};
 ghost use Rattle.recovery_packet_numbers.specs.Skips.{IsSkips};
 ghost use Rattle.recovery_events.specs.declared.event.Event.TheVariants.{Send};
 ghost use Rattle.recovery_sender.specs.Calls.{IsPassedThrough, EventResult};
-ghost use Rattle.recovery_engine.specs.Kept.{by_sender, numbers_told, packets_told, parts_kept, pto_count_of, EventOutcome, IsFreshAlone, IsFreshEstablished, IsFreshSender, IsFresh, AcceptsEvent, MarksKept};
+ghost use Rattle.recovery_engine.specs.Kept.{by_sender, numbers_told, packets_told, parts_kept, pto_count_of, EventOutcome, IsFreshAlone, IsFreshEstablished, IsFreshSender, IsFresh, AcceptsEvent, PassesEvent, MarksKept};
 ghost use Rattle.recovery_engine.specs.Sending.{told_view, ProbeUnlessNoSender, UnlessNoSender};
 ghost use Rattle.recovery_engine.specs.Replies.{IsWritten};
 ghost use Rattle.recovery_engine.specs.SenderViews.{sender_view_of};
@@ -180,6 +180,32 @@ impl Engine {
         match self {
             Engine::Alone(_) => true,
             Engine::Sends(_) => passes(event),
+        }
+    }
+
+    /// Returns whether this is a sender that passes an event, other than that of a sent packet.
+    #[inline(always)]
+    pub fn is_passed(&self, event: &Event<ItemQueue>) -> bool
+        ensures { result ≡ true → PassesEvent self.now event.now }
+    {
+        match self {
+            Engine::Alone(_) => false,
+            Engine::Sends(_) => match event {
+                Event::Send { .. } => false,
+                other => passes(other),
+            },
+        }
+    }
+
+    /// Applies an event that a sender passes.
+    #[inline(always)]
+    pub fn pass(&mut self, event: Event<ItemQueue>) -> Result<Answer<ItemQueue>, Refusal>
+        requires { PassesEvent self.old event }
+        ensures { EventOutcome self.old event result self.new }
+    {
+        match self {
+            Engine::Alone(_) => unreachable!(),
+            Engine::Sends(sending) => passed(sending, event),
         }
     }
 

@@ -3,7 +3,9 @@ use Rattle.std.proofs.Common.{◌≡◌, ℕ, Bool, List, Option, Some, subst, s
 use Rattle.recovery_paths.specs.PathStates.{PathMarks}
 use Rattle.recovery_paths.specs.declared.path_pair.PathName.{PathName}
 use Rattle.recovery_stack.specs.Answers.{HandleApplies, AppliesOrRejects}
-use Rattle.recovery_engine.specs.Kept.{ItemEvent}
+use Rattle.recovery_engine.specs.Kept.{AcceptsEvent, ItemEvent, PassesEvent}
+use Rattle.recovery_engine.specs.declared.kept.Engine.{Engine}
+use Rattle.recovery_engine.specs.declared.kept.Engine.TheVariants.{Alone, Sends}
 use Rattle.recovery_stack.specs.Marks.{MarksStack, SetsMarks}
 use Rattle.recovery_base.specs.declared.below.SpaceId.{SpaceId}
 use Rattle.recovery_losses.specs.declared.frames.Ack.{Ack}
@@ -21,6 +23,11 @@ pub answers_held : {event : ItemEvent} {spelling : EncodedReply} {old new : Opti
 answers_held {event} {spelling} {old} {new} was is held holds lets =
     subst (λ (o : Option Stack). HandleApplies o event spelling new) (sym held)
     (record { is = is; holds = holds; lets = lets })
+
+-- the engine accepts what its sender passes
+pub passed_accepted : (kept : Engine) (event : ItemEvent) → PassesEvent kept event → AcceptsEvent kept event
+passed_accepted (Alone recovery) event passes = tt
+passed_accepted (Sends sending) event passes = passes
 
 pub asks_held : {call : Call} {given : List AckRange} {spelling : EncodedReply} {old new : Option Stack}
     (was is : Stack)

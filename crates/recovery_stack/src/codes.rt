@@ -13,6 +13,7 @@ use recovery_base::timer::Timer;
 use recovery_engine::spelling::copy_numbers;
 use recovery_paths::path_pair::PathName;
 use recovery_queue::items::ItemQueue;
+use recovery_queue::queue::RetransmitQueue;
 use std::alloc::Global;
 use std::net::{Ipv4Addr, Ipv6Addr, SocketAddr, SocketAddrV4, SocketAddrV6};
 
@@ -111,6 +112,9 @@ pub fn queue_of(alloc: Global, items: &[u64]) -> Result<ItemQueue, NoMemory>
     ensures items { IfOk result (λ queue. queue ≡ items.now) }
     ensures memory { OnErr result (2 < length items.now) }
 {
+    if items.is_empty() {
+        return Ok(ItemQueue::empty(alloc));
+    }
     Ok(ItemQueue::from_slice(alloc, items)?)
 }
 

@@ -2,7 +2,8 @@
 ghost use Rattle.std.specs.Prelude.{◌≡◌, ◌≤◌, Some, None, is_some, IfSome, MatchOption};
 ghost use Rattle.std.specs.List.{All};
 ghost use Rattle.recovery_base.specs.Ids.{longest_cid};
-ghost use Rattle.recovery_stack.specs.Answers.{HandleApplies, IsBadArgument, IssuesIdsOrNoMemory};
+ghost use Rattle.recovery_engine.specs.Kept.{PassesEvent};
+ghost use Rattle.recovery_stack.specs.Answers.{AppliesToHeld, HandleApplies, IsBadArgument, IssuesIdsOrNoMemory};
 ghost use Rattle.recovery_stack.specs.Held.{HoldsIf};
 ghost use Rattle.recovery_stack.specs.SenderCalls.{CallsSender, AsksWith, ProbesHandle};
 
@@ -73,6 +74,19 @@ impl Handle {
             return EncodedReply::no_recovery();
         }
         let mut stack = self.slot.take(alloc);
+        if stack.kept.is_passed(&event) {
+            // Field by field: else the reply of a bare recovery is written to memory and copied too.
+            let passed = pass(&mut self.slot, stack, event);
+            return EncodedReply {
+                kind: passed.kind,
+                refusal: passed.refusal,
+                flag: passed.flag,
+                other: passed.other,
+                size: passed.size,
+                first: passed.first,
+                second: passed.second,
+            };
+        }
         let reply = stack.apply(event);
         self.slot.put(stack);
         reply
@@ -153,6 +167,20 @@ impl Handle {
             Err(_) => EncodedReply::no_memory(),
         }
     }
+}
+
+/// Applies an event that a sender passes, and stores the stack. It is out of line, so that an event of a bare recovery
+/// needs no room for its reply.
+#[inline(never)]
+fn pass(slot: &mut Slot, stack: Box<Stack>, event: Event<ItemQueue>) -> EncodedReply
+    requires empty { slot.old.held ≡ None }
+    requires passes { PassesEvent stack.value.kept event }
+    ensures { AppliesToHeld stack.value event result slot.new.held }
+{
+    let mut stack = stack;
+    let reply = stack.pass(event);
+    slot.put(stack);
+    reply
 }
 
 /// Returns a value in a box, or nothing if allocation fails.

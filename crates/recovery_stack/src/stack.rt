@@ -5,7 +5,7 @@ ghost use Rattle.recovery_base.specs.Units.{number_limit};
 ghost use Rattle.rand_pcg.specs.Pcg.{pcg32};
 ghost use Rattle.recovery_packet_numbers.specs.Skips.{IsSkips};
 ghost use Rattle.quic_recovery.specs.State.{state_of};
-ghost use Rattle.recovery_engine.specs.Kept.{parts_kept, AcceptsEvent};
+ghost use Rattle.recovery_engine.specs.Kept.{parts_kept, AcceptsEvent, PassesEvent};
 ghost use Rattle.recovery_engine.specs.Replies.{taken_after, token_after};
 ghost use Rattle.recovery_stack.specs.Made.{IsNewHandle};
 ghost use Rattle.recovery_stack.specs.Answers.{EventReply, AppliesOrRejects};
@@ -81,6 +81,18 @@ impl Stack {
             return EncodedReply::decided();
         }
         self.hand_in(event)
+    }
+
+    /// Applies an event that a sender passes.
+    #[inline(always)]
+    pub fn pass(&mut self, event: Event<ItemQueue>) -> EncodedReply
+        requires { PassesEvent self.old.kept event }
+        ensures { EventReply self.old event result self.new }
+    {
+        let reply = self.kept.pass(event);
+        let spelling = encode_reply(&reply);
+        self.keep(reply);
+        spelling
     }
 
     /// Applies an event that the engine accepts.
