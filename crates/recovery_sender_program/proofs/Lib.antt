@@ -1,3 +1,6 @@
-mod FaultLaws
+mod AckLaws
+mod BeginningLaws
+mod CallLaws
 pub mod GivingLaws
-pub mod WordLaws
+mod PlayingLaws
+mod RangeLaws

@@ -1,3 +1,7 @@
+pub mod Beginning
+pub mod CallAnswers
+pub mod CallLines
+pub mod CallReading
 pub mod Giving
-pub mod LineWords
+pub mod Playing
 pub mod Report

@@ -1,4 +1,9 @@
 //! Writes one line for each call.
+ghost use Rattle.std.specs.Prelude.{◌≡◌, ◌++◌, OnOk, decimal};
+ghost use Rattle.recovery_script_syntax.specs.Answers.{answer_text, items_text};
+ghost use Rattle.recovery_script_syntax.specs.Words.{space_word};
+ghost use Rattle.recovery_sender_program.specs.CallAnswers.{ExtendsText, acked_text, congestion_text, ecn_text, is_without, lost_behind, lost_numbers, losses_text, mark_text, marks_text, reply_text, retransmitted_text, said_line, timeout_text, timer_text, transmission_text};
+
 use itoa::Buffer;
 use recovery_base::below::SpaceId;
 use recovery_base::time::Instant;
@@ -11,71 +16,104 @@ use recovery_sender::{
 };
 use std::alloc::{AllocError, Global};
 
-fn push_number(text: &mut String, before: &str, number: u64) -> Result<(), AllocError> {
+/// Appends a text and a number.
+fn push_number(text: &mut String, before: &str, number: u64) -> Result<(), AllocError>
+    ensures { OnOk result (ExtendsText text.old (before.now ++ decimal number) text.new) }
+{
     text.push_str(before)?;
     text.push_str(Buffer::new().format(number))
 }
 
-fn push_numbers(text: &mut String, numbers: &[u64]) -> Result<(), AllocError> {
+/// Appends numbers, with a space before each.
+fn push_numbers(text: &mut String, numbers: &[u64]) -> Result<(), AllocError>
+    ensures { OnOk result (ExtendsText text.old (items_text numbers.now) text.new) }
+{
     for number in numbers {
         push_number(text, " ", *number)?;
     }
     Ok(())
 }
 
-/// Returns whether nothing is lost.
-fn is_none(losses: &Losses) -> bool {
-    losses.numbers.is_empty() && losses.probe.is_none()
+/// Returns whether an ACK frame's answer has no losses: no packet is lost, and allocation failed for none.
+fn is_without(losses: &Losses) -> bool
+    ensures { result ≡ is_without losses.now }
+{
+    !losses.is_cut && losses.numbers.is_empty() && losses.probe.is_none()
 }
 
-/// Returns whether an ACK frame's answer has losses: a packet is lost, or allocation failed for one that is.
-fn tells_losses(losses: &Losses) -> bool {
-    losses.is_cut || !is_none(losses)
+/// Appends a mark if it applies.
+fn push_mark(text: &mut String, applies: bool, mark: &str) -> Result<(), AllocError>
+    ensures { OnOk result (ExtendsText text.old (mark_text applies mark.now) text.new) }
+{
+    if applies {
+        return text.push_str(mark);
+    }
+    Ok(())
 }
 
-fn push_congestion(text: &mut String, losses: &Losses) -> Result<(), AllocError> {
-    match losses.congestion {
-        Some(bytes) if losses.is_persistent => push_number(text, " persistent ", bytes),
+fn push_congestion(
+    text: &mut String,
+    congestion: Option<u64>,
+    is_persistent: bool,
+) -> Result<(), AllocError>
+    ensures { OnOk result
+        (ExtendsText text.old (congestion_text congestion is_persistent) text.new) }
+{
+    match congestion {
+        Some(bytes) if is_persistent => push_number(text, " persistent ", bytes),
         Some(bytes) => push_number(text, " congestion ", bytes),
         None => Ok(()),
     }
 }
 
-fn push_lost(text: &mut String, losses: &Losses) -> Result<(), AllocError> {
-    text.push_str("lost")?;
-    push_numbers(text, &losses.numbers)?;
-    if let Some(probe) = losses.probe {
-        push_number(text, " ", probe)?;
+/// Appends the numbers of lost packets, that of the MTU probe last.
+fn push_lost_numbers(
+    text: &mut String,
+    numbers: &[u64],
+    probe: Option<u64>,
+) -> Result<(), AllocError>
+    ensures { OnOk result (ExtendsText text.old (lost_numbers numbers.now probe) text.new) }
+{
+    match probe {
+        Some(probe) => {
+            push_numbers(text, numbers)?;
+            push_number(text, " ", probe)
+        }
+        None if numbers.is_empty() => text.push_str(" none"),
+        None => push_numbers(text, numbers),
     }
-    if is_none(losses) {
-        text.push_str(" none")?;
-    }
-    push_congestion(text, losses)?;
-    if losses.is_black_hole {
-        text.push_str(" black-hole")?;
-    }
-    push_cut(text, losses.is_cut)
 }
 
-/// Appends a mark if allocation failed for a packet that is lost.
-fn push_cut(text: &mut String, is_cut: bool) -> Result<(), AllocError> {
-    if is_cut {
-        return text.push_str(" cut");
-    }
-    Ok(())
+/// Appends whether a black hole is reported, and whether allocation failed for a packet that is lost.
+fn push_marks(text: &mut String, is_black_hole: bool, is_cut: bool) -> Result<(), AllocError>
+    ensures { OnOk result (ExtendsText text.old (marks_text is_black_hole is_cut) text.new) }
+{
+    push_mark(text, is_black_hole, " black-hole")?;
+    push_mark(text, is_cut, " cut")
+}
+
+fn push_lost(text: &mut String, losses: &Losses) -> Result<(), AllocError>
+    ensures { OnOk result (ExtendsText text.old (losses_text losses.now) text.new) }
+{
+    text.push_str("lost")?;
+    push_lost_numbers(text, &losses.numbers, losses.probe)?;
+    push_congestion(text, losses.congestion, losses.is_persistent)?;
+    push_marks(text, losses.is_black_hole, losses.is_cut)
 }
 
 /// Appends what is lost with a space.
-fn push_retransmitted(text: &mut String, all: &Retransmitted) -> Result<(), AllocError> {
+fn push_retransmitted(text: &mut String, all: &Retransmitted) -> Result<(), AllocError>
+    ensures { OnOk result
+        (ExtendsText text.old (retransmitted_text all.now.numbers.items all.now.is_cut) text.new) }
+{
     text.push_str("lost")?;
-    push_numbers(text, &all.numbers)?;
-    if all.numbers.is_empty() {
-        text.push_str(" none")?;
-    }
-    push_cut(text, all.is_cut)
+    push_lost_numbers(text, &all.numbers, None)?;
+    push_mark(text, all.is_cut, " cut")
 }
 
-fn push_ecn(text: &mut String, ecn: EcnOutcome) -> Result<(), AllocError> {
+fn push_ecn(text: &mut String, ecn: EcnOutcome) -> Result<(), AllocError>
+    ensures { OnOk result (ExtendsText text.old (ecn_text ecn) text.new) }
+{
     match ecn {
         EcnOutcome::Quiet => Ok(()),
         EcnOutcome::Marked => text.push_str(" ecn-congestion"),
@@ -83,20 +121,33 @@ fn push_ecn(text: &mut String, ecn: EcnOutcome) -> Result<(), AllocError> {
     }
 }
 
-fn push_acknowledged(text: &mut String, acknowledged: &Acknowledged) -> Result<(), AllocError> {
+/// Appends what is lost, if anything is.
+fn push_losses_behind(text: &mut String, losses: &Losses) -> Result<(), AllocError>
+    ensures { OnOk result (ExtendsText text.old (lost_behind losses.now) text.new) }
+{
+    if is_without(losses) {
+        return Ok(());
+    }
+    text.push_str(" ")?;
+    push_lost(text, losses)
+}
+
+fn push_acknowledged(text: &mut String, acknowledged: &Acknowledged) -> Result<(), AllocError>
+    ensures { OnOk result (ExtendsText text.old (acked_text acknowledged.now.numbers.items
+        acknowledged.now.losses acknowledged.now.ecn) text.new) }
+{
     if acknowledged.numbers.is_empty() {
         return text.push_str("acked none");
     }
     text.push_str("acked")?;
     push_numbers(text, &acknowledged.numbers)?;
-    if tells_losses(&acknowledged.losses) {
-        text.push_str(" ")?;
-        push_lost(text, &acknowledged.losses)?;
-    }
+    push_losses_behind(text, &acknowledged.losses)?;
     push_ecn(text, acknowledged.ecn)
 }
 
-fn push_transmission(text: &mut String, transmission: Transmission) -> Result<(), AllocError> {
+fn push_transmission(text: &mut String, transmission: Transmission) -> Result<(), AllocError>
+    ensures { OnOk result (ExtendsText text.old (transmission_text transmission) text.new) }
+{
     match transmission {
         Transmission::Transmitted => text.push_str("transmitted"),
         Transmission::Blocked => text.push_str("blocked"),
@@ -105,7 +156,9 @@ fn push_transmission(text: &mut String, transmission: Transmission) -> Result<()
     }
 }
 
-fn space_word(space: SpaceId) -> &'static str {
+fn space_word(space: SpaceId) -> &'static str
+    ensures { result.now ≡ space_word space }
+{
     match space {
         SpaceId::Initial => "initial",
         SpaceId::Handshake => "handshake",
@@ -113,17 +166,17 @@ fn space_word(space: SpaceId) -> &'static str {
     }
 }
 
-fn push_probes(text: &mut String, space: SpaceId, count: u8) -> Result<(), AllocError> {
-    text.push_str("probe ")?;
-    text.push_str(space_word(space))?;
-    push_number(text, " ", u64::from(count))
-}
-
-fn push_timeout(text: &mut String, timeout: &Timeout) -> Result<(), AllocError> {
+fn push_timeout(text: &mut String, timeout: &Timeout) -> Result<(), AllocError>
+    ensures { OnOk result (ExtendsText text.old (timeout_text timeout.now) text.new) }
+{
     match timeout {
         Timeout::Nothing => text.push_str("nothing"),
         Timeout::Lost { losses, .. } => push_lost(text, losses),
-        Timeout::Probe { space, count } => push_probes(text, *space, *count),
+        Timeout::Probe { space, count } => {
+            text.push_str("probe ")?;
+            text.push_str(space_word(*space))?;
+            push_number(text, " ", u64::from(*count))
+        }
     }
 }
 
@@ -132,14 +185,18 @@ fn push_answer(
     alloc: Global,
     text: &mut String,
     reply: &Result<Answer<ItemQueue>, Refusal>,
-) -> Result<(), AllocError> {
+) -> Result<(), AllocError>
+    ensures { OnOk result (ExtendsText text.old (answer_text reply.now) text.new) }
+{
     let mut line = String::new(alloc);
     write_reply(&mut line, reply)?;
     line.pop();
     text.push_str(&line)
 }
 
-fn push_timer(text: &mut String, timer: Option<Instant>) -> Result<(), AllocError> {
+fn push_timer(text: &mut String, timer: Option<Instant>) -> Result<(), AllocError>
+    ensures { OnOk result (ExtendsText text.old (timer_text timer) text.new) }
+{
     match timer {
         Some(time) => push_number(text, " timer ", time.as_nanos()),
         None => text.push_str(" timer none"),
@@ -150,7 +207,9 @@ fn push_reply(
     alloc: Global,
     text: &mut String,
     reply: CallReplyValue<ItemQueue>,
-) -> Result<(), AllocError> {
+) -> Result<(), AllocError>
+    ensures { OnOk result (ExtendsText text.old (reply_text reply) text.new) }
+{
     match reply {
         CallReplyValue::Transmission(transmission) => push_transmission(text, transmission),
         CallReplyValue::Acknowledged(acknowledged) => push_acknowledged(text, &acknowledged),
@@ -169,7 +228,9 @@ pub fn write_said(
     alloc: Global,
     text: &mut String,
     said: CallRecord<ItemQueue>,
-) -> Result<(), AllocError> {
+) -> Result<(), AllocError>
+    ensures { OnOk result (ExtendsText text.old (said_line said) text.new) }
+{
     let CallRecord { reply, timer } = said;
     match reply {
         Ok(reply) => {

@@ -1,14 +1,66 @@
 //! Parses a line as a call.
-use recovery_base::below::{EcnCounts, NoMemory};
+ghost use Rattle.std.specs.Prelude.{◌≡◌, [], IfOk, MatchOption};
+ghost use Rattle.recovery_script_syntax.specs.Reading.{ReadsBy, words_left};
+ghost use Rattle.recovery_sender.specs.Calls.{IsPassedThrough};
+ghost use Rattle.recovery_sender_program.specs.CallLines.{IsCallLine, IsCallOf, abandon, call_forms, connection_forms, datagram, discard, peer_delay, probe, timeout, transmit};
+ghost use Rattle.recovery_sender_program.specs.CallReading.{AreRangesRead, IsAckRead, IsPassedRead, call_read, counts_read, form_read, front_read, range_read};
+
+use recovery_base::below::{EcnCounts, NoMemory, SpaceId};
+use recovery_base::time::{Duration, Instant};
+use recovery_events::event::Event;
 use recovery_losses::Ack;
 use recovery_queue::items::ItemQueue;
+use recovery_replay::faults::{Grammar, line_named};
 use recovery_script_syntax::lines::{LINE_LIMIT, push_event};
 use recovery_script_syntax::words::{Words, is_name, number_in};
 use recovery_sender::{Asking, Call, Datagram, Frame, passes};
 use std::alloc::Global;
 
+/// A line for each call, with words that fit.
+const EXAMPLES: [&str; 37] = [
+    "transmit data 0 0 1",
+    "ack data 0 0 0 0 0",
+    "timeout 0",
+    "probe data",
+    "datagram 0",
+    "keys",
+    "confirmed",
+    "validated",
+    "peer-delay 0",
+    "discard data 0",
+    "abandon data 0",
+    "received data 0 0 1",
+    "send data 0 0 1 -",
+    "new-id 0 0 0",
+    "next-id",
+    "initial-id 0",
+    "issue-ids 0 0 0",
+    "id-timeout",
+    "peer-retired 0 0",
+    "ack-frequency 0 0 0 0",
+    "acks-sent data",
+    "ack-delay-timeout data",
+    "set-timer idle 0",
+    "stop-timer idle",
+    "next-timeout",
+    "in-flight current",
+    "datagram-in current 0",
+    "pacer-check 0 0",
+    "poll-mtu 0",
+    "peer-limit 0",
+    "mtu-found 0",
+    "check-ack data 0 0",
+    "take-pending data",
+    "new-path 0 0 0",
+    "reset-path 0",
+    "drop-previous",
+    "revert-path",
+];
+
 /// Returns the call of a line, given without its line feed, if it is one.
-pub fn call_in(alloc: Global, line: &[u8]) -> Result<Option<Call<ItemQueue>>, NoMemory> {
+pub fn call_in(alloc: Global, line: &[u8]) -> Result<Option<Call<ItemQueue>>, NoMemory>
+    ensures { IfOk result (IsCallOf line.now) }
+{
     if line.len() > LINE_LIMIT {
         return Ok(None);
     }
@@ -26,16 +78,22 @@ pub fn call_in(alloc: Global, line: &[u8]) -> Result<Option<Call<ItemQueue>>, No
 }
 
 /// Parses a call that does not allocate, by its name and the words after it.
-fn short_call(name: &[u8], words: &mut Words<'_>) -> Option<Call<ItemQueue>> {
+#[tactic(auto, unfolding(crate::specs::CallReading::call_read))]
+fn short_call(name: &[u8], words: &mut Words<'_>) -> Option<Call<ItemQueue>>
+    ensures { ReadsBy (call_read call_forms name.now) words.old words.new result }
+{
     match name {
         name if is_name(name, "transmit") => transmit(words),
-        name if is_name(name, "timeout") => Some(Call::Timeout(words.moment()?)),
+        name if is_name(name, "timeout") => timeout(words),
         name if is_name(name, "probe") => probe(words),
         name => said(name, words),
     }
 }
 
-fn transmit(words: &mut Words<'_>) -> Option<Call<ItemQueue>> {
+#[tactic(auto, unfolding(recovery_script_syntax::specs::Reading::fields_read))]
+fn transmit(words: &mut Words<'_>) -> Option<Call<ItemQueue>>
+    ensures { ReadsBy (form_read transmit) words.old words.new result }
+{
     Some(Call::Transmit(Datagram {
         space: words.space()?,
         now: words.moment()?,
@@ -44,7 +102,17 @@ fn transmit(words: &mut Words<'_>) -> Option<Call<ItemQueue>> {
     }))
 }
 
-fn probe(words: &mut Words<'_>) -> Option<Call<ItemQueue>> {
+#[tactic(auto, unfolding(recovery_script_syntax::specs::Reading::fields_read))]
+fn timeout(words: &mut Words<'_>) -> Option<Call<ItemQueue>>
+    ensures { ReadsBy (form_read timeout) words.old words.new result }
+{
+    Some(Call::Timeout(words.moment()?))
+}
+
+#[tactic(auto, unfolding(recovery_script_syntax::specs::Reading::fields_read))]
+fn probe(words: &mut Words<'_>) -> Option<Call<ItemQueue>>
+    ensures { ReadsBy (form_read probe) words.old words.new result }
+{
     Some(Call::Probe(Asking {
         space: words.space()?,
         immediate_ack: false,
@@ -53,39 +121,94 @@ fn probe(words: &mut Words<'_>) -> Option<Call<ItemQueue>> {
 }
 
 /// Parses calls about the connection and its spaces.
-fn said(name: &[u8], words: &mut Words<'_>) -> Option<Call<ItemQueue>> {
+#[tactic(auto, unfolding(crate::specs::CallReading::call_read))]
+fn said(name: &[u8], words: &mut Words<'_>) -> Option<Call<ItemQueue>>
+    ensures { ReadsBy (call_read connection_forms name.now) words.old words.new result }
+{
     match name {
-        name if is_name(name, "datagram") => Some(Call::Datagram(words.number()?)),
+        name if is_name(name, "datagram") => datagram(words),
         name if is_name(name, "keys") => Some(Call::HandshakeKeys),
         name if is_name(name, "confirmed") => Some(Call::HandshakeConfirmed),
         name if is_name(name, "validated") => Some(Call::AddressValidated),
-        name if is_name(name, "peer-delay") => Some(Call::PeerDelay(words.span()?)),
-        name if is_name(name, "discard") => Some(Call::Discard(words.space()?, words.moment()?)),
-        name if is_name(name, "abandon") => Some(Call::Abandon(words.space()?, words.moment()?)),
+        name if is_name(name, "peer-delay") => peer_delay(words),
+        name if is_name(name, "discard") => discard(words),
+        name if is_name(name, "abandon") => abandon(words),
         _ => None,
     }
 }
 
+#[tactic(auto, unfolding(recovery_script_syntax::specs::Reading::fields_read))]
+fn datagram(words: &mut Words<'_>) -> Option<Call<ItemQueue>>
+    ensures { ReadsBy (form_read datagram) words.old words.new result }
+{
+    Some(Call::Datagram(words.number()?))
+}
+
+#[tactic(auto, unfolding(recovery_script_syntax::specs::Reading::fields_read))]
+fn peer_delay(words: &mut Words<'_>) -> Option<Call<ItemQueue>>
+    ensures { ReadsBy (form_read peer_delay) words.old words.new result }
+{
+    Some(Call::PeerDelay(words.span()?))
+}
+
+#[tactic(auto, unfolding(recovery_script_syntax::specs::Reading::fields_read))]
+fn discard(words: &mut Words<'_>) -> Option<Call<ItemQueue>>
+    ensures { ReadsBy (form_read discard) words.old words.new result }
+{
+    Some(Call::Discard(words.space()?, words.moment()?))
+}
+
+#[tactic(auto, unfolding(recovery_script_syntax::specs::Reading::fields_read))]
+fn abandon(words: &mut Words<'_>) -> Option<Call<ItemQueue>>
+    ensures { ReadsBy (form_read abandon) words.old words.new result }
+{
+    Some(Call::Abandon(words.space()?, words.moment()?))
+}
+
+/// Returns the call that passes an event, if the sender passes it.
+fn passing(event: Event<ItemQueue>) -> Option<Call<ItemQueue>>
+    ensures { MatchOption result (¬ IsPassedThrough event)
+        (λ call. (call ≡ Call.Event event) × IsPassedThrough event) }
+{
+    if passes(&event) {
+        Some(Call::Event(event))
+    } else {
+        None
+    }
+}
+
 /// Returns the event of a line, if it is one that passes through.
-fn passed(alloc: Global, line: &[u8]) -> Result<Option<Call<ItemQueue>>, NoMemory> {
+fn passed(alloc: Global, line: &[u8]) -> Result<Option<Call<ItemQueue>>, NoMemory>
+    ensures { IfOk result (IsPassedRead line.now) }
+{
     let mut events = Vec::with_capacity(alloc, 1)?;
     if !push_event(line, &mut events)? {
         return Ok(None);
     }
     match events.pop() {
-        Some(event) if passes(&event) => Ok(Some(Call::Event(event))),
-        _ => Ok(None),
+        Some(event) => Ok(passing(event)),
+        None => Ok(None),
     }
 }
 
+/// Parses the fields of an ACK frame before its ranges.
+#[tactic(auto, unfolding(recovery_script_syntax::specs::Reading::fields_read))]
+fn ack_front(words: &mut Words<'_>) -> Option<(SpaceId, Instant, Duration, bool)>
+    ensures { ReadsBy front_read words.old words.new result }
+{
+    Some((
+        words.space()?,
+        words.moment()?,
+        words.span()?,
+        words.flag()?,
+    ))
+}
+
 /// Parses an ACK frame: its ranges, followed by the ECN counts.
-fn ack(alloc: Global, words: &mut Words<'_>) -> Result<Option<Call<ItemQueue>>, NoMemory> {
-    let (Some(space), Some(now), Some(delay), Some(app_limited)) = (
-        words.space(),
-        words.moment(),
-        words.span(),
-        words.flag(),
-    ) else {
+fn ack(alloc: Global, words: &mut Words<'_>) -> Result<Option<Call<ItemQueue>>, NoMemory>
+    ensures { IfOk result (IsAckRead (words_left words.old)) }
+{
+    let Some((space, now, delay, app_limited)) = ack_front(words) else {
         return Ok(None);
     };
     let mut ranges = Vec::new(alloc);
@@ -108,33 +231,64 @@ fn ack(alloc: Global, words: &mut Words<'_>) -> Result<Option<Call<ItemQueue>>, 
     })))
 }
 
+/// Parses a range: a word is its first number, the next word its last one.
+#[tactic(auto, unfolding(recovery_script_syntax::specs::Reading::field))]
+fn range_in(word: &[u8], words: &mut Words<'_>) -> Option<(u64, u64)>
+    ensures { ReadsBy (range_read word.now) words.old words.new result }
+{
+    let first = number_in(word)?;
+    let last = words.number()?;
+    Some((first, last))
+}
+
 /// Parses ranges to the end of the line, or to the ECN counts, which it returns.
 fn read_ranges(
     words: &mut Words<'_>,
     ranges: &mut Vec<(u64, u64)>,
-) -> Result<Option<Option<EcnCounts>>, NoMemory> {
+) -> Result<Option<Option<EcnCounts>>, NoMemory>
+    requires { ranges.old.items ≡ [] }
+    ensures { IfOk result (AreRangesRead (words_left words.old) ranges.new.items) }
+{
     while let Some(word) = words.next() {
         if is_name(word, "ecn") {
-            return Ok(last_counts(words));
+            return match last_counts(words) {
+                Some(counts) => Ok(Some(Some(counts))),
+                None => Ok(None),
+            };
         }
-        match (number_in(word), words.number()) {
-            (Some(first), Some(last)) => ranges.push((first, last))?,
-            _ => return Ok(None),
-        }
+        let Some(range) = range_in(word, words) else {
+            return Ok(None);
+        };
+        ranges.push(range)?;
     }
     Ok(Some(None))
 }
 
 /// Parses the ECN counts that end a line.
-fn last_counts(words: &mut Words<'_>) -> Option<Option<EcnCounts>> {
+#[tactic(auto, unfolding(recovery_script_syntax::specs::Reading::fields_read))]
+fn last_counts(words: &mut Words<'_>) -> Option<EcnCounts>
+    ensures { result ≡ counts_read (words_left words.old) }
+{
     let counts = EcnCounts {
         ect0: words.number()?,
         ect1: words.number()?,
         ce: words.number()?,
     };
-    if words.is_empty() {
-        Some(Some(counts))
-    } else {
-        None
+    if words.is_empty() { Some(counts) } else { None }
+}
+
+/// The lines that are calls, for the report of one that cannot be read.
+pub struct CallLines;
+
+impl Grammar for CallLines {
+    ghost is_line = { IsCallLine };
+
+    fn example_of(name: &[u8]) -> Option<&'static [u8]> {
+        line_named(&EXAMPLES, name)
+    }
+
+    fn has(alloc: Global, line: &[u8]) -> Result<bool, NoMemory> {
+        let call = call_in(alloc, line)?;
+        Ok(call.is_some())
     }
 }

@@ -4,7 +4,6 @@
 
 mod answers;
 mod choice;
-mod faults;
 mod lines;
 mod pages;
 mod play;
@@ -24,13 +23,16 @@ use std::process::ExitCode;
 /// Answers the calls on standard input.
 fn played(rt: &HostRuntime, choice: Choice) -> Outcome {
     match BufReader::new(rt.alloc(), rt.reader()) {
-        Ok(mut input) => play(
-            rt.alloc(),
-            choice,
-            &mut input,
-            &mut rt.stdout(),
-            &mut rt.stderr(),
-        ),
+        Ok(mut input) => {
+            let (_output, outcome) = play(
+                rt.alloc(),
+                choice,
+                &mut input,
+                rt.stdout(),
+                &mut rt.stderr(),
+            );
+            outcome
+        }
         Err(_) => Outcome::OutOfMemory,
     }
 }

@@ -14,6 +14,7 @@ use Rattle.recovery_replay.specs.declared.reading.Unread.{Unread}
 use Rattle.recovery_replay.specs.declared.reading.Unread.TheVariants as reasons
 use Rattle.recovery_replay.specs.Reading.{BreaksOff, IsLine, TruncatedLine}
 use Rattle.recovery_replay.specs.Script.{lines_of}
+use Rattle.recovery_replay.proofs.LinesLaws.{one_line}
 use Rattle.recovery_replay.proofs.ScriptLaws.{line_then}
 use Rattle.recovery_replay.specs.declared.outcome.Outcome.{Outcome}
 use Rattle.recovery_replay.specs.declared.outcome.Outcome.TheVariants.{Ended, OutOfMemory}
@@ -23,7 +24,7 @@ use Rattle.recovery_trace.specs.declared.turn.Turn.TheVariants.{Done, Bad, Over}
 use Rattle.recovery_replay.specs.Outcomes.{outcome_of}
 use Rattle.recovery_trace.specs.Trace.{ItemBeginning, Streams, origin, streams_of, TracesInput, TracesFrom}
 use Rattle.recovery_trace.specs.Turns.{ItemParts, LineOutcome}
-use Rattle.recovery_trace.proofs.TraceLaws.{Made, SoFar, Taken, also_taken, bad_line, done_fine, ends_bad, ends_cut, ends_so, fine_more, nothing_taken, one_line, takes_last, takes_whole, taken_more, turn_bad, turn_done, turn_over}
+use Rattle.recovery_trace.proofs.TraceLaws.{Made, SoFar, Taken, also_taken, bad_line, done_fine, ends_bad, ends_cut, ends_so, fine_more, nothing_taken, takes_last, takes_whole, taken_more, turn_bad, turn_done, turn_over}
 
 -- what was read and done so far, and how the trace would end here
 pub record GoingBy {F K : Type 0} (beginning : ItemBeginning F K) (choice : Choice) (streams : Streams)

@@ -18,7 +18,6 @@ use Rattle.recovery_replay.specs.Reading.{BreaksOff, TruncatedLine}
 use Rattle.recovery_replay.specs.Script.{NoFeed, ended, lines_of}
 use Rattle.recovery_replay.specs.Writing.{AppendsFront}
 use Rattle.recovery_replay.proofs.ReadingLaws.{kept_spells}
-use Rattle.recovery_replay.proofs.ScriptLaws.{last_line, line_then}
 use Rattle.recovery_replay.specs.declared.outcome.Outcome.{Outcome}
 use Rattle.recovery_replay.specs.declared.outcome.Outcome.TheVariants.{Ended, WriteFailed, Closed, OutOfMemory}
 use Rattle.recovery_replay.specs.declared.script.Ending.TheVariants.{Whole, BadLine}
@@ -27,31 +26,19 @@ use Rattle.recovery_trace.specs.declared.turn.Turn.TheVariants.{Done, Bad, Over}
 use Rattle.recovery_replay.specs.Outcomes.{outcome_of}
 use Rattle.recovery_trace.specs.EventTimes.{moment_of}
 use Rattle.recovery_trace.specs.Qlog.{note_of}
-use Rattle.recovery_trace.specs.FaultReports.{ReportsFault}
-use Rattle.recovery_trace.specs.Turns.{AppliesLineEvent, IsUnreadableLine, IsFine, IsSilent, ItemParts, IsSkippedLine, LineOutcome, turn_text}
-use Rattle.recovery_trace.proofs.KeptLaws.{kept_passes, kept_silent, kept_speaks, kept_tells}
+use Rattle.recovery_replay.specs.FaultReports.{ReportsFault}
+use Rattle.recovery_replay.specs.Faults.{IsSilent}
+use Rattle.recovery_replay.proofs.KeptLaws.{kept_silent, kept_speaks, kept_tells}
+use Rattle.recovery_replay.proofs.LinesLaws.{alone, lines_ended, one_line}
+use Rattle.recovery_trace.specs.Faults.{IsEventLine}
+use Rattle.recovery_trace.specs.Turns.{AppliesLineEvent, IsUnreadableLine, IsFine, ItemParts, IsSkippedLine, LineOutcome, turn_text}
+use Rattle.recovery_trace.proofs.KeptLaws.{kept_passes}
 use Rattle.recovery_trace.specs.Trace.{WroteAll, AreParseableLines, EndsBad, LastUnreadable, WrotePrefix, ItemBeginning, ItemHistory, SpelledBy, Streams, origin, streams_of, ConsumesLines, TakesAlso, TraceGuarantees, TracesInput, time_of}
 
 -- ---- bytes and lines
 
-lines_ended : (lines : List (List ℕ)) (rest : List ℕ) → All NoFeed lines
-    → lines_of (flat_map ended lines ++ rest) ≡ lines ++ lines_of rest
-lines_ended [] rest h = refl
-lines_ended (line ∷ lines) rest h = simp append_assoc (rw (
-  line_then line (flat_map ended lines ++ rest) (h 0 line (omega arith)),
-  lines_ended lines rest (All-tail NoFeed line lines h),
-) refl)
-
 turned : {A : Type 0} (x : A) (xs : List A) → reverse (x ∷ xs) ≡ reverse xs ++ x ∷ []
 turned x xs = reverse-append (x ∷ []) xs
-
--- a line that the end of the input ends
-alone : (line : List ℕ) → NoFeed line → 0 < length line → lines_of line ≡ line ∷ []
-alone line h some = ap lines_of (sym (append-nil line)) ∙ last_line line h some
-
-pub one_line : (cut : List ℕ) → NoFeed cut → length (lines_of cut) ≤ 1
-one_line [] h = omega arith
-one_line (byte ∷ cut) h = omega (arith, ap length (alone (byte ∷ cut) h (omega arith)))
 
 -- what was read so far are these lines
 pub record Taken (unread now : Option (List ℕ)) (lines : List (List ℕ)) : Type 0 where
@@ -196,7 +183,7 @@ module _ {F K : Type 0} (beginning : ItemBeginning F K) (choice : Choice) where
     }
 
     pub made_bad : (text : List ℕ) → IsUnreadableLine line → new ≡ old → later ≡ earlier → Keeps now after
-        → ReportsFault line (length lines + 1) text → AppendsFront now_said said text
+        → ReportsFault IsEventLine line (length lines + 1) text → AppendsFront now_said said text
         → Made before after unsaid said new later (line ∷ lines)
     made_bad text bad same still kept tells front = record {
       text = m.text;
@@ -270,7 +257,8 @@ module _ {F R C K : Type 0} {f : _} {c : _} {q : _} {m : _} {r : _} (config : Re
         made_bad (origin old config start random) choice before now after unsaid now_said said (state_of old)
         (state_of new) earlier later lines line made
         turn.4.0 (bad_line turn) turn.1 turn.2 turn.3
-        (subst (λ n. ReportsFault line n turn.4.0) is_number (kept_tells line kept number turn.4.0 is_kept turn.4.1))
+        (subst (λ n. ReportsFault IsEventLine line n turn.4.0) is_number
+        (kept_tells IsEventLine line kept number turn.4.0 is_kept turn.4.1))
         turn.4.2
 
     module _ (unread left : Option (List ℕ)) (so_far : Outcome)

@@ -1,31 +1,7 @@
--- What is known of a line that is no event.
-use Rattle.std.specs.Prelude.{◌≡◌, ◌≢◌, ℕ, ◌+◌, ◌-◌, ◌<◌, ◌≤◌, ◌==◌, ◌⊎◌, List, ◌++◌, length, take, slice_index}
-use Rattle.std.specs.List.{count_by}
+-- The lines of a trace that can be read.
+use Rattle.std.specs.Prelude.{ℕ, List}
 use Rattle.recovery_script_syntax.specs.Lines.{ItemEvent, EncodesEvent}
-use Rattle.recovery_script_syntax.specs.Words.{longest_line}
-use Rattle.recovery_trace.specs.declared.faults.Fault.{Fault}
-use Rattle.recovery_trace.specs.declared.faults.Fault.TheVariants.{TooLong, TooShort, Word}
 
--- some line that begins so is an event
-abbrev pub IsEventPrefix : List ℕ → Type 0
-IsEventPrefix front = (behind : List ℕ) × (event : ItemEvent) × EncodesEvent (front ++ behind) event
-
--- the bytes from one place of a line up to another have no space, and the line ends there or a space follows
-pub record EndsWord (line : List ℕ) (start end : ℕ) : Type 0 where
-  pub from : start ≤ end
-  pub within : end ≤ length line
-  pub whole : (place : ℕ) → start ≤ place → place < end → slice_index line place ≢ 32
-  pub ended : end < length line → slice_index line end ≡ 32
-
--- A word of a line: its number is the spaces before it plus one. It is the first, or what precedes the space before it
--- begins a line that is an event.
-pub record NamesWord (line : List ℕ) (number start end : ℕ) : Type 0 where
-  pub short : length line ≤ longest_line
-  pub word : EndsWord line start end
-  pub counted : number ≡ count_by (λ byte. byte == 32) (take start line) + 1
-  pub begun : (start ≡ 0) ⊎ ((slice_index line (start - 1) ≡ 32) × IsEventPrefix (take (start - 1) line))
-
-abbrev pub NamesWordOf : List ℕ → Fault → Type 0
-NamesWordOf line TooLong = longest_line < length line
-NamesWordOf line TooShort = IsEventPrefix line
-NamesWordOf line (Word number start end) = NamesWord line number start end
+-- it encodes an event
+abbrev pub IsEventLine : List ℕ → Type 0
+IsEventLine line = (event : ItemEvent) × EncodesEvent line event

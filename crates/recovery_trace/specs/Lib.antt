@@ -3,6 +3,5 @@ pub mod EventTimes
 pub mod Qlog
 pub mod Report
 pub mod States
-pub mod FaultReports
 pub mod Trace
 pub mod Turns

@@ -30,7 +30,8 @@ use Rattle.recovery_trace.specs.declared.requests.Controllers.TheVariants.{NewRe
 use Rattle.recovery_trace.specs.EventTimes.{moment_of}
 use Rattle.recovery_replay.specs.Outcomes.{IsBroken}
 use Rattle.recovery_trace.specs.Qlog.{header_text, note_of}
-use Rattle.recovery_trace.specs.FaultReports.{ReportsFault}
+use Rattle.recovery_replay.specs.FaultReports.{ReportsFault}
+use Rattle.recovery_trace.specs.Faults.{IsEventLine}
 use Rattle.recovery_trace.specs.Turns.{IsUnreadableLine, IsFine, ItemParts, IsSkippedLine, turn_text}
 
 abbrev pub ItemHistory : Type 0
@@ -55,7 +56,7 @@ FaultReportsOf [] told = told ≡ []
 FaultReportsOf (line ∷ lines) told =
     (IsFine line × FaultReportsOf lines told)
     ⊎ (IsUnreadableLine line × ((front : List ℕ) × (text : List ℕ) × (n : ℕ) × FaultReportsOf lines front
-    × ReportsFault line (length lines + 1) text × (told ≡ front ++ take n text)))
+    × ReportsFault IsEventLine line (length lines + 1) text × (told ≡ front ++ take n text)))
 
 -- the latest time of an event of a past, or 0
 abbrev pub time_of : ItemHistory → ℕ

@@ -18,18 +18,15 @@ use Rattle.recovery_trace.specs.declared.turn.Turn.TheVariants.{Done, Bad, Over}
 use Rattle.recovery_trace.specs.EventTimes.{moment_of}
 use Rattle.recovery_trace.specs.Qlog.{metrics_text, note_of, note_text}
 use Rattle.recovery_trace.specs.States.{state_text}
-use Rattle.recovery_trace.specs.FaultReports.{ReportsFault}
+use Rattle.recovery_replay.specs.FaultReports.{ReportsFault}
+use Rattle.recovery_replay.specs.Faults.{IsSilent}
+use Rattle.recovery_trace.specs.Faults.{IsEventLine}
 
 -- ---- lines
 
 -- it is no event
 abbrev pub IsSkippedLine : List ℕ → Type 0
 IsSkippedLine line = (event : ItemEvent) → ¬ EncodesEvent line event
-
--- an empty line, or a comment
-abbrev pub IsSilent : List ℕ → Type 0
-IsSilent [] = Unit {0}
-IsSilent (byte ∷ bytes) = byte ≡ 35
 
 -- it is an event, or an empty line or comment
 abbrev pub IsFine : List ℕ → Type 0
@@ -86,7 +83,7 @@ module _ {F R C K : Type 0} {f : _} {c : _} {q : _} {m : _} {r : _} where
       × Keeps unsaid said
   LineOutcome shows line number old new earlier later before after unsaid said Bad =
       IsUnreadableLine line × (state_of new ≡ state_of old) × (later ≡ earlier) × Keeps before after
-      × ((text : List ℕ) × ReportsFault line number text × AppendsFront unsaid said text)
+      × ((text : List ℕ) × ReportsFault IsEventLine line number text × AppendsFront unsaid said text)
   LineOutcome shows line number old new earlier later before after unsaid said (Over WriteFailed) =
       ((text : List ℕ) × AppliesLineEvent shows line old new earlier later text × AppendsFront before after text)
       × Keeps unsaid said

@@ -1,10 +1,9 @@
-//! The fault of a line that cannot be parsed.
-ghost use Rattle.std.specs.Prelude.{◌≤◌, IfOk, IsTrue, length};
-ghost use Rattle.recovery_trace.specs.Faults.{IsEventPrefix, EndsWord, NamesWordOf};
-ghost use Rattle.recovery_script_syntax.specs.Words.{longest_line};
+//! The lines of a trace, for the report of one that cannot be read.
+ghost use Rattle.recovery_trace.specs.Faults.{IsEventLine};
 
 use recovery_base::below::NoMemory;
-use recovery_script_syntax::lines::{LINE_LIMIT, push_event};
+use recovery_replay::faults::{Grammar, line_named};
+use recovery_script_syntax::lines::push_event;
 use std::alloc::Global;
 
 /// A line for each event, with words that fit.
@@ -48,103 +47,18 @@ const EXAMPLES: [&str; 37] = [
     "revert-path",
 ];
 
-/// Why a line is no event.
-#[derive(Clone, Copy)]
-pub enum Fault {
-    /// It has more than 4096 bytes.
-    TooLong,
-    /// Words are missing at its end.
-    TooShort,
-    /// A word does not fit its place, or is one too many.
-    Word {
-        /// Which word of the line, counted from 1.
-        number: u64,
-        /// Its start, in bytes from the line's first.
-        start: usize,
-        /// Its end.
-        end: usize,
-    },
-}
+/// The lines that encode an event.
+pub struct EventLines;
 
-/// Returns the end of the word of a line that begins at a place.
-fn word_end(line: &[u8], start: usize) -> usize
-    requires { start ≤ length line.now }
-    ensures { EndsWord line.now start result }
-{
-    let mut end = start;
-    while end < line.len() && line[end] != b' ' {
-        end += 1;
-    }
-    end
-}
+impl Grammar for EventLines {
+    ghost is_line = { IsEventLine };
 
-/// Returns the example of the event with this name, if any.
-fn example_of(name: &[u8]) -> Option<&'static [u8]> {
-    for example in EXAMPLES {
-        let bytes = example.as_bytes();
-        if &bytes[..word_end(bytes, 0)] == name {
-            return Some(bytes);
-        }
+    fn example_of(name: &[u8]) -> Option<&'static [u8]> {
+        line_named(&EXAMPLES, name)
     }
-    None
-}
 
-/// Returns whether these bytes begin a line that is an event, with this continuation.
-fn begins(alloc: Global, front: &[u8], behind: &[u8]) -> Result<bool, NoMemory>
-    ensures { IfOk result (λ does. IsTrue does → IsEventPrefix front.now) }
-{
-    let mut line = Vec::new(alloc);
-    if line.extend_from_slice(front).is_err() || line.extend_from_slice(behind).is_err() {
-        return Err(NoMemory);
-    }
-    let mut events = Vec::with_capacity(alloc, 1)?;
-    push_event(&line, &mut events)
-}
-
-/// Returns what follows the first word of bytes that may begin with a space.
-fn behind_word(words: &[u8]) -> &[u8] {
-    if words.is_empty() {
-        return words;
-    }
-    &words[word_end(words, 1)..]
-}
-
-/// Returns the first word of a line that cannot continue as the example does.
-fn fault_beside(alloc: Global, line: &[u8], example: &[u8]) -> Result<Fault, NoMemory>
-    requires { length line.now ≤ longest_line }
-    ensures { IfOk result (NamesWordOf line.now) }
-{
-    let mut behind = example;
-    let mut start = 0;
-    let mut number = 1;
-    while start <= line.len() {
-        let end = word_end(line, start);
-        behind = behind_word(behind);
-        match begins(alloc, &line[..end], behind) {
-            Ok(true) => {}
-            Ok(false) => return Ok(Fault::Word { number, start, end }),
-            Err(refused) => return Err(refused),
-        }
-        start = end + 1;
-        number += 1;
-    }
-    Ok(Fault::TooShort)
-}
-
-/// Returns why a line is no event. What precedes the reported word begins a line that is an event.
-pub fn fault_in(alloc: Global, line: &[u8]) -> Result<Fault, NoMemory>
-    ensures { IfOk result (NamesWordOf line.now) }
-{
-    if line.len() > LINE_LIMIT {
-        return Ok(Fault::TooLong);
-    }
-    let end = word_end(line, 0);
-    match example_of(&line[..end]) {
-        Some(example) => fault_beside(alloc, line, example),
-        None => Ok(Fault::Word {
-            number: 1,
-            start: 0,
-            end,
-        }),
+    fn has(alloc: Global, line: &[u8]) -> Result<bool, NoMemory> {
+        let mut events = Vec::with_capacity(alloc, 1)?;
+        push_event(line, &mut events)
     }
 }

@@ -8,7 +8,6 @@ mod qlog;
 mod report;
 mod requests;
 mod states;
-mod telling;
 mod trace;
 mod turn;
 

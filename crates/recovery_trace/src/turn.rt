@@ -1,22 +1,24 @@
 //! One line of a trace and its outcome.
-ghost use Rattle.std.specs.Prelude.{◌≡◌, ◌⊎◌, ◌++◌, IfErr, IfOk, OnOk, string_bytes, MatchBool};
+ghost use Rattle.std.specs.Prelude.{◌≡◌, ◌⊎◌, ◌++◌, IfErr, IfOk, OnOk, string_bytes};
 ghost use Rattle.std.specs.Io.KnownBytes.{Appends};
 ghost use Rattle.quic_recovery.specs.State.{state_of};
 ghost use Rattle.recovery_replay.specs.Outcomes.{IsBroken};
 ghost use Rattle.recovery_replay.specs.Writing.{AppendsFront};
-ghost use Rattle.recovery_trace.specs.Turns.{TurnOutcome, IsSilent, LineOutcome, turn_text};
+ghost use Rattle.recovery_trace.specs.Turns.{TurnOutcome, LineOutcome, turn_text};
 
+use crate::faults::EventLines;
 use crate::moments::moment_of;
 use crate::qlog::{Note, note_of, write_metrics, write_note};
 use crate::requests::Shown;
 use crate::states::write_state;
-use crate::telling::fault_line;
 use quic_recovery::{LiveRecovery, Recovery};
 use rand_pcg::Pcg32;
 use recovery_base::below::NoMemory;
 use recovery_congestion::congestion::ControllerFactory;
 use recovery_events::event::{Answer, Refusal};
 use recovery_queue::items::ItemQueue;
+use recovery_replay::fault_reports::fault_line;
+use recovery_replay::faults::is_silent;
 use recovery_replay::outcome::Outcome;
 use recovery_replay::writing::deliver;
 use recovery_script_syntax::answers::write_reply;
@@ -33,13 +35,6 @@ pub enum Turn {
     Bad,
     /// The trace is over.
     Over(Outcome),
-}
-
-/// Returns whether the line is empty or a comment.
-fn is_silent(line: &[u8]) -> bool
-    ensures { MatchBool result (IsSilent line.now) (¬ IsSilent line.now) }
-{
-    line.is_empty() || line[0] == b'#'
 }
 
 /// Appends the line of a reply, and that of the state if asked for; or qlog records.
@@ -145,7 +140,7 @@ where
             Err(outcome) => Turn::Over(outcome),
         },
         Ok(false) if is_silent(line) => Turn::Done,
-        Ok(false) => match fault_line(alloc, line, number) {
+        Ok(false) => match fault_line::<EventLines>(alloc, line, number) {
             Ok(told) => {
                 let _told = deliver(errors, told.as_bytes());
                 Turn::Bad
