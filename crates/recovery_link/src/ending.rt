@@ -10,6 +10,8 @@ use std::alloc::{AllocError, AllocFailed};
 pub enum Ending {
     /// Success.
     Ended,
+    /// A schedule cannot be opened, or a read failed.
+    ReadFailed,
     /// A write failed.
     WriteFailed,
     /// The reader closed the pipe.
@@ -30,7 +32,8 @@ impl Ending {
         match self {
             Ending::Ended | Ending::Closed => 0,
             Ending::WrongArguments | Ending::Refused => 2,
-            Ending::WriteFailed | Ending::OutOfMemory | Ending::SenderError => 1,
+            Ending::ReadFailed | Ending::WriteFailed | Ending::OutOfMemory | Ending::SenderError =>
+                1,
         }
     }
 
@@ -38,6 +41,7 @@ impl Ending {
     pub fn text(self) -> &'static str {
         match self {
             Ending::Ended | Ending::Closed | Ending::Refused => "",
+            Ending::ReadFailed => "link: read failed\n",
             Ending::WriteFailed => "link: write failed\n",
             Ending::OutOfMemory => "link: out of memory\n",
             Ending::SenderError => "link: the sender refused a call\n",

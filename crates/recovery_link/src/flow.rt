@@ -49,7 +49,8 @@ pub struct Flow {
     late: u64,
 }
 
-fn chosen(window: Window) -> ChosenConfig {
+/// Returns the controllers of a setting.
+pub fn chosen(window: Window) -> ChosenConfig {
     match window {
         Window::Fixed(bytes) if bytes > 0 => ChosenConfig::Fixed(FixedConfig::new(bytes)),
         Window::Cubic => ChosenConfig::Cubic(CubicConfig::default()),

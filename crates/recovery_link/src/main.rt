@@ -10,6 +10,7 @@ mod flow;
 mod link;
 mod pages;
 mod peer;
+mod scheduled;
 mod sending;
 mod settings;
 mod tape;
@@ -21,6 +22,7 @@ use ending::Ending;
 use figures::Figures;
 use pages::{HELP, VERSION};
 use recovery_replay::arguments::{ArgumentsError, arguments};
+use scheduled::{played, schedule_in, unused_in};
 use settings::{Form, Settings, hint_of, settings_of};
 use std::alloc::{AllocError, Global};
 use std::io;
@@ -70,6 +72,15 @@ fn run(rt: &HostRuntime, settings: &Settings, changes: &Changes) -> Ending {
     }
 }
 
+/// Plays a schedule, if the arguments name one, else runs a transfer.
+fn done(rt: &HostRuntime, settings: &Settings, words: &[String]) -> Ending {
+    match (schedule_in(words), unused_in(words)) {
+        (Some(_), Some(place)) => refused_with(rt, words, place, hint_of("schedule=")),
+        (Some(file), None) => played(rt, settings, file),
+        (None, _) => run_with(rt, settings, words),
+    }
+}
+
 /// Runs a transfer over a link that changes as the arguments ask for.
 fn run_with(rt: &HostRuntime, settings: &Settings, words: &[String]) -> Ending {
     match changes_of(rt.alloc(), words) {
@@ -81,8 +92,15 @@ fn run_with(rt: &HostRuntime, settings: &Settings, words: &[String]) -> Ending {
 
 /// Reports the argument that cannot be read.
 fn refused(rt: &HostRuntime, words: &[String], place: usize) -> Ending {
+    match words.get(place) {
+        Some(word) => refused_with(rt, words, place, hint_of(word.as_str())),
+        None => Ending::Refused,
+    }
+}
+
+/// Reports an argument, and what it may be.
+fn refused_with(rt: &HostRuntime, words: &[String], place: usize, hint: &str) -> Ending {
     if let Some(word) = words.get(place) {
-        let hint = hint_of(word.as_str());
         let _told = eprint!(rt; "link: cannot read {word:?}: {hint}\n");
     }
     Ending::Refused
@@ -94,7 +112,7 @@ fn asked(rt: &HostRuntime, words: &[String]) -> Ending {
         [word] if word.as_str() == "--help" => written(print!(rt; "{HELP}")),
         [word] if word.as_str() == "--version" => written(print!(rt; "{VERSION}")),
         words => match settings_of(words) {
-            Ok(settings) => run_with(rt, &settings, words),
+            Ok(settings) => done(rt, &settings, words),
             Err(place) => refused(rt, words, place),
         },
     }

@@ -10,6 +10,7 @@ Transfers bytes over a simulated link with the sender of recovery-sender, and pr
 
   --script      prints the calls of the first sender, as lines for recovery-sender client; figures go to standard error
   --qlog        prints its events as qlog, in JSON text sequences; figures go to standard error
+  schedule=     a file of steps of two endpoints, each answered by a line; of the other words only controller= applies
   controller=   newreno, cubic, or a constant window in bytes (newreno)
   paced=        yes or no: whether datagrams wait for the pacer (yes)
   bytes=        how many bytes each flow transfers, 1 to 1000G (1M)
@@ -41,5 +42,5 @@ Transfers bytes over a simulated link with the sender of recovery-sender, and pr
 
 A time has the unit ns, us, ms or s, and is at most 1000s. A count may end with k, M or G. Both may have a fraction:
 12.5ms, 0.5%.
-Exit status: 0; 1 if writing or allocation failed; 2 if an argument could not be read.
+Exit status: 0; 1 if reading, writing or allocation failed; 2 if an argument or a step could not be read.
 ";

@@ -188,6 +188,7 @@ fn with_value(settings: Settings, name: &str, value: &str) -> Option<Settings> {
             until: within(1, span_in(value)?, MOST)?,
             ..settings
         }),
+        "schedule" => Some(settings),
         _ => with_flow(settings, name, value),
     }
 }
@@ -344,6 +345,7 @@ pub fn hint_of(word: &str) -> &'static str {
             "0 to 1000000 of a million, or 0% to 100%, as in loss=0.5%"
         }
         "burst" | "ack-burst" => "0 to 1M packets, as in burst=4",
+        "schedule" => "with a schedule there is only controller=, as in controller=cubic",
         _ => "there is no such name; --help has all",
     }
 }

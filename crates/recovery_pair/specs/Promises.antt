@@ -33,10 +33,10 @@ pub record KeepsPromises (validated : Bool) (log : PairLog) (event : PairEvent) 
   -- Until it validates the client's address, the server sends at most three times the bytes that arrive (RFC 9000,
   -- 8.1).
   pub limited : ServerSendsThreefold validated (event ∷ log)
-  -- What counts in flight is sent only if it fits into the window with all that is in flight, unless a probe is due
-  -- (RFC 9002, 7 and 7.5).
+  -- A packet that is reported with a window fits into it with all that is in flight (RFC 9002, 7 and 7.5).
   pub window : SendsWithinWindow log event
-  -- What is in flight exceeds the largest window so far by the probes in flight at most (RFC 9002, 7 and 7.5).
+  -- The bytes in flight are at most the largest window so far, plus the packets in flight that had none: probes (RFC
+  -- 9002, 7 and 7.5).
   pub flight : ExceedsByProbes (event ∷ log)
   -- The ACK delay that an endpoint reports is the time since it received the largest number of the space, as new (RFC
   -- 9000, 13.2.5).

@@ -10,7 +10,7 @@ use Rattle.recovery_pair.specs.declared.steps.PairAnswer.TheVariants.{Arrived, S
 use Rattle.recovery_pair.specs.declared.steps.PairStep.TheVariants.{Arrive, Send}
 use Rattle.recovery_pair.specs.Logs.{PairEvent, PairLog, same_end}
 
--- the largest number of a space that an end called new, and when
+-- the largest number of a space that was new to an endpoint, and when
 abbrev pub largest_new : End → SpaceId → PairLog → Option (ℕ × ℕ)
 largest_new end space [] = None
 largest_new end space ((Arrive at now, Ok (Arrived to there number size (New items acked))) ∷ earlier) =

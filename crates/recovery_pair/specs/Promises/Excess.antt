@@ -1,5 +1,5 @@
--- What is in flight exceeds the largest window so far by the probes in flight at most (RFC 9002, 7 and 7.5). A probe is
--- a packet that was sent while one was due, so that no window was checked.
+-- The bytes in flight are at most the largest window reported so far, plus the packets in flight that had none (RFC
+-- 9002, 7 and 7.5). These are probes (`SendsAsPermitted`).
 use Rattle.std.specs.Prelude.{◌+◌, ◌≤◌, is_some, not}
 use Rattle.recovery_pair.specs.declared.steps.End.{End}
 use Rattle.recovery_pair.specs.Flights.{flight, flight_of, largest_window, no_numbers}

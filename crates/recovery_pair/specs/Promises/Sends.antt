@@ -1,6 +1,6 @@
 -- An endpoint sends what is passed to it. It has nothing to send in a space only once it has sent there no less than
 -- was passed to it, by every measure of the items of a packet: how many packets there are, how often an item occurs. An
--- endpoint that drops one, sends other items, or sends nothing, breaks this.
+-- endpoint that drops an item, or sends others instead, and then answers `Nothing`, breaks this.
 use Rattle.std.specs.Prelude.{ℕ, ◌≤◌, List, Result, Ok}
 use Rattle.recovery_base.specs.declared.below.SpaceId.{SpaceId}
 use Rattle.recovery_sender.specs.declared.sender.SenderError.{SenderError}
@@ -10,7 +10,7 @@ use Rattle.recovery_pair.specs.declared.steps.PairAnswer.TheVariants.{Arrived, D
 use Rattle.recovery_pair.specs.declared.steps.PairStep.TheVariants.{Send}
 use Rattle.recovery_pair.specs.Logs.{PairEvent, PairLog, handed, sent_in}
 
--- the answer to an end that is to send: its packet, what holds it back, or nothing, if it owes nothing
+-- the answer to `Send`: a packet, what holds it back, an error, or nothing, if all that was passed was sent
 abbrev pub IsAnsweredSend : PairLog → End → SpaceId → Result PairAnswer SenderError → Type 0
 IsAnsweredSend log end space (Ok Nothing) =
     (measure : List ℕ → ℕ) → handed end measure space log ≤ sent_in end measure space log

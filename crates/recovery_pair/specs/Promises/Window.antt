@@ -1,5 +1,5 @@
--- The window (RFC 9002, 7): what counts in flight is sent only if it fits into the window with all that is in flight.
--- That is so unless a probe is due: then no window is reported (7.5).
+-- The window (RFC 9002, 7): a packet that is reported with a window fits into it with all that is in flight. Which
+-- packets have one is in `SendsAsPermitted`: those that count in flight, unless a probe is due (7.5).
 use Rattle.std.specs.Prelude.{◌+◌, ◌≤◌, Ok, Some}
 use Rattle.recovery_pair.specs.declared.steps.PairAnswer.TheVariants.{Sent}
 use Rattle.recovery_pair.specs.declared.steps.PairStep.TheVariants.{Send}

@@ -1,0 +1,2 @@
+mod GivingLaws
+mod Taken

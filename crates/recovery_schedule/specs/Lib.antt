@@ -1,0 +1,4 @@
+pub mod Giving
+pub mod Played
+pub mod Steps
+pub mod Texts

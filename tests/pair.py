@@ -1,0 +1,335 @@
+#!/usr/bin/env python3
+"""Two endpoints over a hostile network: recovery-link plays random schedules, which drop, duplicate, reorder and delay, and all short ones. Each answer
+is compared with what the steps and answers before it allow (crates/recovery_pair/specs/Promises, and some that are not proved): honest endpoints
+reject no ACK of each other, what is acknowledged was delivered once with the items that were sent, no item is lost, none is sent more often than its
+losses and probes account for, the amplification limit and the window hold. Then the network delivers, and all items arrive.
+
+    tests/pair.py                  with seeds 0 to 59
+    tests/pair.py 1000 1099        with others
+    tests/pair.py --program PATH   another program in place of the proved one"""
+import argparse
+import collections
+import itertools
+import os
+import random
+import subprocess
+import sys
+import tempfile
+from concurrent.futures import ThreadPoolExecutor
+
+import tree
+from tree import ROOT
+
+ENDS, SPACES = ("client", "server"), ("initial", "handshake", "data")
+ESTABLISHED = [f"{it} {end}" for end in ENDS for it in ("keys", "validated", "confirmed")]
+SIZE, SECOND = 1200, 10**9
+STEPS, ROUNDS = 300, 60
+
+tests = tree.Tests("pair")
+
+
+class Falsified(Exception):
+    """Which statement an answer contradicts."""
+
+
+def holds(what, fact):
+    if not fact:
+        raise Falsified(what)
+
+
+class Packet:
+    def __init__(self, key, items, size, elicits):
+        self.key, self.items, self.size, self.elicits, self.outcome = key, items, size, elicits, None
+
+
+class World:
+    """What the steps and answers so far say."""
+
+    def __init__(self):
+        self.wire, self.packets, self.heard, self.discarded = [], {}, {}, set()
+        self.handed, self.delivered = collections.defaultdict(list), collections.defaultdict(list)
+        self.probes = collections.Counter()
+        self.came, self.went, self.validated = collections.Counter(), collections.Counter(), set()
+        self.due, self.windows, self.heard_at = collections.Counter(), collections.Counter(), {}
+
+    def take(self, step, answer):
+        words, said = step.split(), answer.split()
+        taken = {"hand": self.hand, "send": self.send, "arrive": self.arrive, "expire": self.expire, "discard": self.discard}
+        if said[0] in ("refused", "failed"):
+            return
+        if words[0] == "validated":
+            self.validated.add(words[1])
+        elif words[0] in taken:
+            taken[words[0]](words[1:], said)
+
+    def hand(self, words, said):
+        self.handed[words[0], words[1]] += words[2:]
+
+    def discard(self, words, said):
+        self.discarded.add((words[0], words[1]))
+        self.due.pop((words[0], words[1]), None)
+        for packet in self.packets.values():
+            if packet.key[:2] == (words[0], words[1]) and not packet.outcome:
+                packet.outcome = "discarded"
+
+    # ---- sending
+
+    def send(self, words, said):
+        end, space, now, size = words[0], words[1], int(words[2]), int(words[3])
+        if said[0] == "nothing":
+            return self.all_kept(end, space)
+        if said[0] != "sent":
+            return
+        key = end, space, int(said[1])
+        holds("a number is sent once", key not in self.packets)
+        packet = Packet(key, list(itertools.takewhile(str.isdigit, said[2:])), size, "ack-only" not in said)
+        self.in_window(end, packet, said)
+        self.delayed(end, space, now, said)
+        if packet.elicits:
+            self.due[end, space] = max(0, self.due[end, space] - 1)
+        self.packets[key] = packet
+        self.wire.append(packet)
+        self.went[end] += packet.size
+        if end == "server" and end not in self.validated:
+            holds("threefold", self.went[end] <= 3 * self.came[end])
+        for item in packet.items:
+            self.repeated(end, space, item)
+
+    def in_window(self, end, packet, said):
+        """What counts in flight fits its window, unless it is a probe."""
+        if "window" in said:
+            window = int(said[said.index("window") + 1])
+            holds("what counts is sent only if the window has room", self.flight(end) + packet.size <= window)
+            self.windows[end] = max(window, self.windows[end])
+        packet.is_probe = packet.elicits and "window" not in said
+        holds("only probes are not checked", not packet.is_probe or self.due[packet.key[:2]] > 0)
+        probes = sum(it.size for it in [*self.packets.values(), packet] if it.key[0] == end and it.is_probe and not it.outcome)
+        flight = self.flight(end) + packet.size * packet.elicits
+        holds("the flight exceeds the largest window by the probes at most", flight <= self.windows[end] + probes)
+
+    def delayed(self, end, space, now, said):
+        """The ACK delay is the time since the largest number was new (RFC 9000, 13.2.5)."""
+        if (end, space) in self.heard_at:
+            holds("the ACK delay", int(said[-1]) == max(0, now - self.heard_at[end, space][1]))
+
+    def of(self, end, space):
+        return [it for it in self.packets.values() if it.key[:2] == (end, space)]
+
+    def flight(self, end):
+        return sum(it.size for it in self.packets.values() if it.key[0] == end and it.elicits and not it.outcome)
+
+    def all_kept(self, end, space):
+        """An endpoint has nothing to send: each item is in a packet that was acknowledged or is outstanding."""
+        kept = {item for it in self.of(end, space) if it.outcome in (None, "acked") for item in it.items}
+        holds("no item is lost", (end, space) in self.discarded or set(self.handed[end, space]) <= kept)
+
+    def repeated(self, end, space, item):
+        carriers = [it for it in self.of(end, space) if item in it.items]
+        lost = sum(it.outcome == "lost" for it in carriers)
+        once = self.handed[end, space].count(item)
+        holds("an item is sent again only for a loss or a probe", len(carriers) <= once + lost + self.probes[end, space])
+
+    # ---- receiving
+
+    def arrive(self, words, said):
+        if said[0] == "nothing":
+            return holds("a packet that was sent can arrive", int(words[0]) >= len(self.wire))
+        packet = self.wire[int(words[0])]
+        end, space, number, fate, *rest = said[1:]
+        holds("what arrives was sent", (space, int(number)) == packet.key[1:] and end != packet.key[0])
+        self.came[end] += packet.size
+        key = end, space, int(number)
+        if fate == "dropped":
+            holds("dropped only without keys", (end, space) in self.discarded)
+        elif fate == "duplicate":
+            holds("a duplicate", key in self.heard or int(number) + 129 <= max(it[2] for it in self.heard if it[:2] == key[:2]))
+        else:
+            holds("new once", key not in self.heard)
+            self.new(key, packet, int(words[1]), rest)
+
+    def new(self, key, packet, now, rest):
+        end, space, _ = key
+        ends = [at for at, word in enumerate(rest) if word in ("acked", "ack")] or [len(rest)]
+        items, ack = rest[:ends[0]], rest[ends[0]:]
+        holds("the items are those that were sent", items == packet.items)
+        self.heard[key] = items
+        self.heard_at[end, space] = max(self.heard_at.get((end, space), (-1, 0)), (key[2], now))
+        self.delivered[packet.key[0], space] += items
+        if ack[:1] == ["ack"]:
+            holds("no ACK is rejected", "SpaceDiscarded" in ack)
+        elif ack:
+            self.acknowledged(end, space, ack)
+
+    def acknowledged(self, end, space, ack):
+        named = ack.index("lost") if "lost" in ack else len(ack)
+        other = "server" if end == "client" else "client"
+        for number in map(int, ack[1:named]):
+            packet = self.packets.get((end, space, number))
+            holds("what is acknowledged is outstanding", packet and packet.outcome is None)
+            holds("what is acknowledged was delivered", self.heard.get((other, space, number)) == packet.items)
+            packet.outcome = "acked"
+        self.lost(end, space, ack[named + 1:])
+
+    def lost(self, end, space, words):
+        for number in itertools.takewhile(str.isdigit, words):
+            packet = self.packets.get((end, space, int(number)))
+            holds("what is lost is outstanding", packet and packet.outcome is None)
+            packet.outcome = "lost"
+
+    def expire(self, words, said):
+        if said[0] == "probe":
+            self.probes[words[0], said[1]] += int(said[2])
+            self.due[words[0], said[1]] = int(said[2])
+        elif said[0] == "lost":
+            self.lost(words[0], said[1], said[2:])
+
+
+def stepped(world, line, answer):
+    try:
+        world.take(line, answer)
+    except Falsified as why:
+        raise Falsified(f"{why}: {line!r} was answered {answer!r}") from None
+
+
+class Run:
+    """A program that answers step by step."""
+
+    def __init__(self, program, words=()):
+        pipes = {"stdin": subprocess.PIPE, "stdout": subprocess.PIPE, "text": True, "bufsize": 1}
+        self.world, self.lines, self.now = World(), [], 0
+        self.process = subprocess.Popen([program, "schedule=/dev/stdin", *words], **pipes)
+
+    def step(self, line):
+        self.lines.append(line)
+        self.process.stdin.write(f"{line}\n")
+        answer = self.process.stdout.readline().rstrip("\n")
+        holds(f"an answer to {line!r}", answer)
+        stepped(self.world, line, answer)
+        return answer
+
+    def end(self):
+        self.process.stdin.close()
+        self.process.stdout.close()
+        return self.process.wait()
+
+
+def adversary(run, spaces, draw, count):
+    """Steps as they come: a packet that none names was dropped."""
+    for item in range(count):
+        run.now += draw.choice((0, 0, 0, 10**5, 10**6, 10**7, draw.randrange(2 * SECOND)))
+        end, space, kind = draw.choice(ENDS), draw.choice(spaces), draw.random()
+        wire = len(run.world.wire)
+        if kind < 0.2:
+            run.step(f"hand {end} {space} {item}" + (f" {item + STEPS}" if draw.random() < 0.2 else ""))
+        elif kind < 0.5:
+            run.step(f"send {end} {space} {run.now} {draw.choice((SIZE, SIZE, 300))}")
+        elif kind < 0.85 and wire:
+            run.step(f"arrive {draw.choice((wire - 1, draw.randrange(wire), max(0, wire - 3)))} {run.now}")
+        elif kind < 0.95:
+            run.step(f"expire {end} {run.now}")
+        else:
+            run.step(f"late {end} {run.now}")
+
+
+def delivered(run):
+    return all(set(items) <= set(run.world.delivered[at]) for at, items in run.world.handed.items())
+
+
+def deliver(run):
+    """The network delivers: all that was handed in arrives."""
+    for _ in range(ROUNDS):
+        if delivered(run):
+            return
+        before = len(run.world.wire)
+        for end in ENDS:
+            for _ in range(40):
+                if not run.step(f"send {end} data {run.now} {SIZE}").startswith("sent"):
+                    break
+        run.now += 10**7
+        for place in range(before, len(run.world.wire)):
+            run.step(f"arrive {place} {run.now}")
+        for end in ENDS:
+            run.step(f"late {end} {run.now + SECOND}")
+        run.now += 4 * SECOND
+        for end in ENDS:
+            run.step(f"expire {end} {run.now}")
+    holds("all items arrive at last", False)
+
+
+def played(program, seed):
+    """A random run from this seed: which statement failed, if one did."""
+    draw = random.Random(seed)
+    run, spaces = Run(program, draw.choice(([], ["controller=cubic"]))), draw.choice((SPACES, ("data",), ("data",)))
+    try:
+        for line in ESTABLISHED if spaces == ("data",) else []:
+            run.step(line)
+        adversary(run, spaces, draw, STEPS)
+        if spaces == ("data",):
+            deliver(run)
+        return run.end(), None
+    except Falsified as why:
+        run.process.kill()
+        return 0, f"{why}\n" + "\n".join(run.lines)
+
+
+MOVES = ["hand client data 1", "hand server data 2", "send client data {} 1200", "send server data {} 1200", "arrive 0 {}", "arrive 1 {}",
+         "expire client {}", "late server {}"]
+
+
+def short(program, moves):
+    """All that happens in a few steps, each three seconds after the one before."""
+    lines = [*ESTABLISHED, *(it.format(3 * SECOND * at) for at, it in enumerate(moves))]
+    with tempfile.NamedTemporaryFile("w") as file:
+        file.write("\n".join(lines))
+        file.flush()
+        status, answers, errors = tree.ran([program, f"schedule={file.name}"], text=True, input="")
+    world = World()
+    try:
+        holds(f"status 0 and an answer for each step: {errors}", status == 0 and len(answers.splitlines()) == len(lines))
+        for line, answer in zip(lines, answers.splitlines()):
+            stepped(world, line, answer)
+    except Falsified as why:
+        return f"{why}\n" + "\n".join(lines)
+
+
+BAD = {  # a schedule, or arguments beside it, and what is told
+    "hand client data\nsend client data 1200": "line 2 of the schedule cannot be read: send END SPACE TIME SIZE, as in send client data 0 1200",
+    "# a comment\n\nlose 3": "line 3 of the schedule cannot be read: a step is hand, send, arrive, expire, late, validated, keys, confirmed or discard",
+    "arrive 0": "line 1 of the schedule cannot be read: arrive POSITION TIME, as in arrive 0 10000000",
+}
+
+
+def texts(program):
+    """The example, by RFC 9002 as its comments say, and what cannot be read."""
+    script, answers = (ROOT / "examples" / f"lost-flight.{it}" for it in ("schedule", "out"))
+    expect = tests.expect
+    expect("the example", tree.ran([program, f"schedule={script}"], text=True, input=""), (0, answers.read_text(), ""))
+    for lines, told in BAD.items():
+        status, _, errors = tree.ran([program, "schedule=/dev/stdin"], text=True, input=lines)
+        expect(repr(lines), (status, errors), (2, f"link: {told}\n"))
+    status, _, errors = tree.ran([program, f"schedule={script}", "rate=1M"], text=True, input="")
+    told = 'link: cannot read "rate=1M": with a schedule there is only controller=, as in controller=cubic\n'
+    expect("another argument", (status, errors), (2, told))
+    expect("no such file", tree.ran([program, f"schedule={script}.none"], text=True, input=""), (1, "", "link: read failed\n"))
+
+
+def main():
+    parser = argparse.ArgumentParser(description=__doc__, formatter_class=argparse.RawDescriptionHelpFormatter)
+    parser.add_argument("--program", default=ROOT / "crates" / "recovery_link" / "out" / "recovery_link")
+    parser.add_argument("seeds", nargs="*", type=int, default=[0, 59])
+    given = parser.parse_args()
+    texts(given.program)
+    with ThreadPoolExecutor(len(os.sched_getaffinity(0))) as pool:
+        seeds = range(given.seeds[0], given.seeds[-1] + 1)
+        for seed, (status, why) in zip(seeds, pool.map(lambda it: played(given.program, it), seeds)):
+            tests.holds(f"seed {seed}", status == 0 and not why, why or f"status {status}")
+        all_moves = list(itertools.product(MOVES, repeat=4))
+        for why in pool.map(lambda it: short(given.program, it), all_moves):
+            tests.passed += not why
+            if why:
+                tests.holds("a short schedule", False, why)
+    tests.end()
+
+
+if __name__ == "__main__":
+    main()
