@@ -107,8 +107,9 @@ impl Connection {
         let fresh = self.state().current().remote.ip() != remote.ip();
         self.tell(Event::NewPath { now, remote, fresh })?;
         self.challenge = Some(challenge);
-        let patience = self.state().current().rtt.pto_base();
-        self.set_timer(Timer::PathValidation, now + patience + patience + patience)
+        self.sender.set_challenge(Some(challenge), false);
+        let patience = self.three_timeouts();
+        self.set_timer(Timer::PathValidation, now + patience)
     }
 
     /// Processes a PATH_RESPONSE. Returns whether it answers the challenge, so that the address of the current path is
@@ -118,6 +119,7 @@ impl Connection {
             return Ok(false);
         }
         self.challenge = None;
+        self.sender.set_challenge(None, false);
         self.stop_timer(Timer::PathValidation)?;
         self.sender.on_address_validated();
         self.tell(Event::DropPrevious)?;
@@ -128,6 +130,7 @@ impl Connection {
     /// spoofed. The previous path is in use again (RFC 9000, 9.3.2).
     pub fn path_failed(&mut self) -> Result<(), SenderError> {
         self.challenge = None;
+        self.sender.set_challenge(None, false);
         self.stop_timer(Timer::PathValidation)?;
         self.tell(Event::RevertPath)
     }

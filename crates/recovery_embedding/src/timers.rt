@@ -1,7 +1,7 @@
 //! Timers: the recovery stores their times, and the stack has one clock (RFC 9002, A.8).
 use crate::connection::Connection;
 use quic_recovery::below::SpaceId;
-use quic_recovery::time::Instant;
+use quic_recovery::time::{Duration, Instant};
 use quic_recovery::timer::Timer;
 use quic_recovery::{Answer, Event};
 use recovery_sender::{SenderError, passes};
@@ -40,13 +40,24 @@ impl Connection {
         self.state().timers().is_expired(timer, now)
     }
 
+    /// Returns three probe timeouts, the larger of both paths' (RFC 9000, 8.2.4 and 10.2; RFC 9002, 6.2.1).
+    pub fn three_timeouts(&self) -> Duration {
+        let base = self.state().current().rtt.pto_base();
+        let base = match self.state().previous() {
+            Some(path) => base.max(path.rtt.pto_base()),
+            None => base,
+        };
+        let timeout = base + self.sender.variables().max_ack_delay;
+        timeout + timeout + timeout
+    }
+
     /// Closes the connection: only its end remains, in three probe timeouts (RFC 9000, 10.2).
     pub fn close(&mut self, now: Instant) -> Result<(), SenderError> {
         for timer in Timer::VALUES {
             self.stop_timer(timer)?;
         }
-        let timeout = self.state().current().rtt.pto_base();
-        self.set_timer(Timer::Close, now + timeout + timeout + timeout)?;
+        let patience = self.three_timeouts();
+        self.set_timer(Timer::Close, now + patience)?;
         self.sender.discard(SpaceId::Data, now)
     }
 }
