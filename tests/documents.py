@@ -32,10 +32,10 @@ QUALIFIED = re.compile(r"([A-Z]\w+)(?:<[^>]*>)?::(?:\{([^}]*)\}|(\w+))")
 # names in backquotes that stand in no source: what the crate that this follows, Rust or the toolchain calls so, and parts of patterns
 OTHERS = {
     "DECISIONS.md": "circular_buffer",
-    "DIFFERENCES.md": "first_packet crypto_stream tinyvec Trait f32 Retransmits ArrayRangeSet::default",
+    "DIFFERENCES.md": "first_packet crypto_stream tinyvec f32 Retransmits ArrayRangeSet::default",
     "EMBEDDING.md": "rand_chacha Retransmits max_data reset_stream max_stream_data Meta::default",
     "PROGRAMS.md": "rttvar",
-    "PROVING.md": "same-self- plant",
+    "PROVING.md": "plant",
 }
 TYPES = {"Box", "Pcg32"}  # declared elsewhere, and named with what they have
 
