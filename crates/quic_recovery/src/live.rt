@@ -5,7 +5,8 @@ ghost use Rattle.recovery_packet_numbers.specs.Skips.{IsSkips};
 ghost use Rattle.recovery_paths.specs.PathLog.{paths_marks};
 ghost use Rattle.recovery_history.specs.CallerState.{AreMarksFresh, HasNoLossTime, marks_at, with_marks_at, with_loss_time_at};
 ghost use Rattle.recovery_history.specs.Reachability.{ReachedBy};
-ghost use Rattle.quic_recovery.specs.Live.{LiveStep, IsReachable, PreservesPasts, LiveStepFromSome};
+ghost use Rattle.recovery_events.specs.declared.event.Event.TheVariants.{Acked, EndAcks, Sample, Send, Transmit};
+ghost use Rattle.quic_recovery.specs.Live.{AppliesEvent, LiveStep, IsReachable, PreservesPasts, LiveStepFromSome};
 ghost use Rattle.quic_recovery.specs.State.{state_of, begun, Transition};
 ghost use Rattle.recovery_history.specs.Transitions.{inputs_of};
 ghost use Rattle.recovery_history.specs.StateAfter.{InFlightAfter};
@@ -13,7 +14,7 @@ ghost use Rattle.recovery_history.specs.StateAfter.{InFlightAfter};
 use crate::driver::Recovery;
 use rand_core::Rng;
 use recovery_base::below::{NoMemory, SpaceId};
-use recovery_base::time::Instant;
+use recovery_base::time::{Duration, Instant};
 use recovery_congestion::congestion::ControllerFactory;
 use recovery_events::event::{Answer, Event, Refusal};
 use recovery_history::RecoveryConfig;
@@ -101,6 +102,84 @@ where
         ensures extended { ∥ LiveStepFromSome self.old.recovery event result self.new.recovery ∥₁ }
     {
         self.recovery.apply(event)
+    }
+
+    /// Applies [`Event::Send`], without the match over all events.
+    #[inline(always)]
+    pub fn send(
+        &mut self,
+        space: SpaceId,
+        now: Instant,
+        size: u16,
+        ack_eliciting: bool,
+        largest_acked: Option<u64>,
+        queue: Q,
+        stream_frames: Q::Meta,
+    ) -> Result<Answer<Q>, Refusal>
+        ensures { AppliesEvent self.old.recovery
+            (Send space now size ack_eliciting largest_acked queue stream_frames)
+            result self.new.recovery }
+    {
+        self.recovery.send(
+            space,
+            now,
+            size,
+            ack_eliciting,
+            largest_acked,
+            queue,
+            stream_frames,
+        )
+    }
+
+    /// Applies [`Event::Acked`], without the match over all events.
+    #[inline(always)]
+    pub fn acked(
+        &mut self,
+        space: SpaceId,
+        now: Instant,
+        number: u64,
+        app_limited: bool,
+    ) -> Result<Answer<Q>, Refusal>
+        ensures { AppliesEvent self.old.recovery (Acked space now number app_limited) result
+            self.new.recovery }
+    {
+        self.recovery.acked(space, now, number, app_limited)
+    }
+
+    /// Applies [`Event::EndAcks`], without the match over all events.
+    #[inline(always)]
+    pub fn end_acks(
+        &mut self,
+        now: Instant,
+        app_limited: bool,
+        largest: Option<u64>,
+    ) -> Result<Answer<Q>, Refusal>
+        ensures { AppliesEvent self.old.recovery (EndAcks now app_limited largest) result
+            self.new.recovery }
+    {
+        self.recovery.end_acks(now, app_limited, largest)
+    }
+
+    /// Applies [`Event::Sample`], without the match over all events.
+    #[inline(always)]
+    pub fn sample(&mut self, delay: Duration, rtt: Duration) -> Result<Answer<Q>, Refusal>
+        ensures { AppliesEvent self.old.recovery (Sample delay rtt) result self.new.recovery }
+    {
+        self.recovery.sample(delay, rtt)
+    }
+
+    /// Applies [`Event::Transmit`], without the match over all events.
+    #[inline(always)]
+    pub fn transmit(
+        &mut self,
+        now: Instant,
+        bytes: u16,
+        checked: bool,
+    ) -> Result<Answer<Q>, Refusal>
+        ensures { AppliesEvent self.old.recovery (Transmit now bytes checked) result
+            self.new.recovery }
+    {
+        self.recovery.transmit(now, bytes, checked)
     }
 
     /// Stores the caller's marks of a path, as [`Recovery::set_marks`]. This is no event.

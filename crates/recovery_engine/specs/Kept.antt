@@ -21,11 +21,9 @@ use Rattle.recovery_history.specs.CallerState.{marks_at, with_marks_at}
 use Rattle.recovery_history.specs.History as History
 use Rattle.recovery_history.specs.History.{Beginning, begins, queue_model}
 use Rattle.recovery_history.specs.RecoveryState.{RecoveryState}
-use Rattle.quic_recovery.specs.Live.{LiveStep, LiveStepFromSome, PreservesPasts}
+use Rattle.quic_recovery.specs.Live.{AppliesEvent, PreservesPasts}
 use Rattle.recovery_history.specs.Reachability.{ReachedBy}
-use Rattle.quic_recovery.specs.State.{state_of, Transition}
-use Rattle.recovery_history.specs.Transitions.{inputs_of}
-use Rattle.recovery_history.specs.StateAfter.{InFlightAfter}
+use Rattle.quic_recovery.specs.State.{state_of}
 use Rattle.quic_recovery.specs.declared.driver.Recovery.{Recovery}
 use Rattle.recovery_history.specs.declared.config.RecoveryConfig.{RecoveryConfig}
 use Rattle.recovery_engine.specs.Controllers.{chosen_made, chosen_words}
@@ -56,15 +54,6 @@ AcceptsEvent (Sends sending) event = IsPassedThrough event
 abbrev pub PassesEvent : Engine → ItemEvent → Type 0
 PassesEvent (Alone recovery) event = ⊥
 PassesEvent (Sends sending) event = IsPassedThrough event
-
--- the promises of `LiveRecovery::apply` for an event and its reply, for every past
-pub record AppliesEvent {F Q R C K S M P : Type 0} {f : _} {c : _} {q : _} {m : _} {r : _}
-    (old : Recovery F Q R C K S M P f c q m r) (event : Event Q S M P) (reply : History.Reply Q)
-    (new : Recovery F Q R C K S M P f c q m r) : Type 0 where
-  pub changes : Transition event old reply new
-  pub in_flight : let new = state_of new in InFlightAfter (inputs_of new) new.paths
-  pub extends : LiveStep old event reply new
-  pub extended : ∥ LiveStepFromSome old event reply new ∥₁
 
 -- the reply in a sender's form
 abbrev pub by_sender : {Q : Type 0} → History.Reply Q → Result (Answer Q) SenderError

@@ -9,11 +9,12 @@ ghost use Rattle.recovery_events.specs.declared.event.Event.TheVariants.{Send};
 ghost use Rattle.recovery_sender.specs.Calls.{IsPassedThrough, EventResult};
 ghost use Rattle.recovery_engine.specs.Kept.{by_sender, numbers_told, packets_told, parts_kept, pto_count_of, EventOutcome, IsFreshAlone, IsFreshEstablished, IsFreshSender, IsFresh, AcceptsEvent, PassesEvent, MarksKept};
 ghost use Rattle.recovery_engine.specs.Sending.{told_view, ProbeUnlessNoSender, UnlessNoSender};
+ghost use Rattle.recovery_engine.specs.declared.sending.Call.TheVariants.{TakeAck};
 ghost use Rattle.recovery_engine.specs.Replies.{IsWritten};
 ghost use Rattle.recovery_engine.specs.SenderViews.{sender_view_of};
 
 use crate::controllers::ChosenConfig;
-use crate::sending::{AckRange, Call, OutcomeView, Sending};
+use crate::sending::{AckRange, AckRoom, Call, OutcomeView, Sending};
 use crate::spelling::{EncodedReply, copy_numbers};
 use crate::views::SenderView;
 use quic_recovery::{LiveRecovery, Recovery};
@@ -22,7 +23,7 @@ use recovery_base::below::{NoMemory, SpaceId};
 use recovery_base::time::Instant;
 use recovery_events::event::{Answer, Event, Refusal};
 use recovery_history::RecoveryConfig;
-use recovery_losses::Side;
+use recovery_losses::{Ack, Side};
 use recovery_paths::path_pair::PathName;
 use recovery_paths::paths::PathMarks;
 use recovery_queue::items::ItemQueue;
@@ -217,26 +218,43 @@ impl Engine {
     {
         match self {
             Engine::Alone(recovery) => recovery.apply(event),
-            Engine::Sends(sending) => match event {
-                Event::Send {
-                    space,
-                    now,
-                    size,
-                    ack_eliciting,
-                    largest_acked,
-                    queue,
-                    stream_frames: (),
-                } => sent(
-                    sending,
-                    space,
-                    now,
-                    size,
-                    ack_eliciting,
-                    largest_acked,
-                    queue,
-                ),
-                other => passed(sending, other),
-            },
+            Engine::Sends(sending) => passed(sending, event),
+        }
+    }
+
+    /// Records a sent packet: the event `Send`, without the match over all events.
+    #[inline(always)]
+    pub fn send(
+        &mut self,
+        space: SpaceId,
+        now: Instant,
+        size: u16,
+        ack_eliciting: bool,
+        largest_acked: Option<u64>,
+        queue: ItemQueue,
+    ) -> Result<Answer<ItemQueue>, Refusal>
+        ensures { EventOutcome self.old
+            (Send space now size ack_eliciting largest_acked queue tt) result self.new }
+    {
+        match self {
+            Engine::Alone(recovery) => recovery.send(
+                space,
+                now,
+                size,
+                ack_eliciting,
+                largest_acked,
+                queue,
+                (),
+            ),
+            Engine::Sends(sending) => sent(
+                sending,
+                space,
+                now,
+                size,
+                ack_eliciting,
+                largest_acked,
+                queue,
+            ),
         }
     }
 
@@ -312,6 +330,25 @@ impl Engine {
         match self {
             Engine::Alone(_) => EncodedReply::no_sender(),
             Engine::Sends(sending) => sending.call_sender(alloc, call, ranges),
+        }
+    }
+
+    /// Processes an ACK frame: the call [`Call::TakeAck`], without the match over all calls.
+    #[inline(always)]
+    pub fn take_ack(
+        &mut self,
+        alloc: Global,
+        space: SpaceId,
+        now: Instant,
+        ranges: &[AckRange],
+        ack: Ack,
+        room: AckRoom,
+    ) -> EncodedReply
+        ensures { UnlessNoSender (TakeAck space now ack room) ranges.now self.old result self.new }
+    {
+        match self {
+            Engine::Alone(_) => EncodedReply::no_sender(),
+            Engine::Sends(sending) => sending.take_ack(alloc, space, now, ranges, ack, room),
         }
     }
 

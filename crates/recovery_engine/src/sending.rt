@@ -242,6 +242,7 @@ fn tells_more(told: &Acknowledged) -> bool
         || !is_quiet(told.ecn)
 }
 
+#[inline(always)]
 fn spell_acknowledged(told: &Acknowledged) -> EncodedReply
     ensures { result ≡ acknowledged_spelled told.now }
 {
@@ -295,6 +296,7 @@ fn spell_probes(space: SpaceId, count: u8) -> EncodedReply
 }
 
 /// Fills a list with the given ranges in their order. Returns false if allocation fails.
+#[inline(always)]
 fn fill(ranges: &mut Vec<(u64, u64)>, given: &[AckRange]) -> bool
     ensures ranges { result ≡ true → ranges.new.items ≡ map range_given given.now }
     ensures memory { result ≡ false → 0 < length given.now }
@@ -338,6 +340,7 @@ fn list_packet(number: u64, items: &[u64], packets: &mut Vec<u64>) -> bool
 }
 
 /// Fills a list with these packets and their items. Returns false if allocation fails.
+#[inline(always)]
 fn list_packets(tracked: &SentPackets<ItemQueue>, numbers: &[u64], packets: &mut Vec<u64>) -> bool
     ensures { result ≡ true
         → packets.new.items ≡ packets_listed tracked.now.packets numbers.now }
@@ -352,6 +355,7 @@ fn list_packets(tracked: &SentPackets<ItemQueue>, numbers: &[u64], packets: &mut
 }
 
 /// Returns whether a caller has room for these packets, and for all numbers that may be lost then.
+#[inline(always)]
 fn has_room_for(room: &AckRoom, newly: &NewlyAcked, packets: &[u64]) -> bool
     ensures { Decides result (HasRoomFor room.now newly.now packets.now) }
 {
@@ -413,7 +417,7 @@ impl Sending {
                 now,
                 ack,
                 room,
-            } => self.take_frame(alloc, space, now, ranges, ack, room),
+            } => self.take_frame_apart(alloc, space, now, ranges, ack, room),
             Call::Expire(now) => self.expire(now),
             Call::Discard { space, now } => self.discard(space, now),
             Call::RetransmitAll { space, now } => self.retransmit_all(space, now),
@@ -440,7 +444,44 @@ impl Sending {
         }
     }
 
+    /// Processes a frame with these ranges: the call [`Call::TakeAck`]. One of 1-RTT packets is processed inline, and
+    /// the compiler knows their space there.
+    #[inline(always)]
+    pub fn take_ack(
+        &mut self,
+        alloc: Global,
+        space: SpaceId,
+        now: Instant,
+        given: &[AckRange],
+        ack: Ack,
+        room: AckRoom,
+    ) -> EncodedReply
+        ensures { AckFrameReply space now given.now ack room self.old result self.new }
+    {
+        match space {
+            SpaceId::Data => self.take_frame(alloc, space, now, given, ack, room),
+            _ => self.take_frame_apart(alloc, space, now, given, ack, room),
+        }
+    }
+
+    /// Processes a frame with these ranges, out of line.
+    #[inline(never)]
+    fn take_frame_apart(
+        &mut self,
+        alloc: Global,
+        space: SpaceId,
+        now: Instant,
+        given: &[AckRange],
+        ack: Ack,
+        room: AckRoom,
+    ) -> EncodedReply
+        ensures { AckFrameReply space now given.now ack room self.old result self.new }
+    {
+        self.take_frame(alloc, space, now, given, ack, room)
+    }
+
     /// Processes a frame with these ranges. All memory is allocated before the sender changes.
+    #[inline(always)]
     fn take_frame(
         &mut self,
         alloc: Global,

@@ -61,17 +61,14 @@ pub extern "C" fn recovery_ffi_send(
         return EncodedReply::bad_argument();
     };
     match queue_of(alloc, items) {
-        Ok(queue) => handle.apply(
+        Ok(queue) => handle.send(
             alloc,
-            Event::Send {
-                space,
-                now: Instant::from_nanos(now),
-                size,
-                ack_eliciting,
-                largest_acked: maybe(has_largest, largest),
-                queue,
-                stream_frames: (),
-            },
+            space,
+            Instant::from_nanos(now),
+            size,
+            ack_eliciting,
+            maybe(has_largest, largest),
+            queue,
         ),
         Err(_) => EncodedReply::no_memory(),
     }

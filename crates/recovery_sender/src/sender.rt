@@ -16,6 +16,7 @@ use std::alloc::Global;
 mod acks;
 mod ends;
 mod events;
+mod frequent;
 mod handshake;
 mod losses;
 mod packets;

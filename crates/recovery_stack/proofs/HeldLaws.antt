@@ -1,5 +1,6 @@
 -- What holds for a handle follows from what holds for the stack in it.
 use Rattle.std.proofs.Common.{◌≡◌, ℕ, Bool, List, Option, Some, subst, sym}
+use Rattle.recovery_events.specs.declared.event.Event.TheVariants.{Send}
 use Rattle.recovery_paths.specs.PathStates.{PathMarks}
 use Rattle.recovery_paths.specs.declared.path_pair.PathName.{PathName}
 use Rattle.recovery_stack.specs.Answers.{HandleApplies, AppliesOrRejects}
@@ -28,6 +29,12 @@ answers_held {event} {spelling} {old} {new} was is held holds lets =
 pub passed_accepted : (kept : Engine) (event : ItemEvent) → PassesEvent kept event → AcceptsEvent kept event
 passed_accepted (Alone recovery) event passes = tt
 passed_accepted (Sends sending) event passes = passes
+
+-- it accepts a packet that is sent
+pub send_accepted : (kept : Engine) (space : SpaceId) (now size : ℕ) (ack_eliciting : Bool) (largest : Option ℕ)
+    (queue : List ℕ) → AcceptsEvent kept (Send space now size ack_eliciting largest queue tt)
+send_accepted (Alone recovery) space now size ack_eliciting largest queue = tt
+send_accepted (Sends sending) space now size ack_eliciting largest queue = tt
 
 pub asks_held : {call : Call} {given : List AckRange} {spelling : EncodedReply} {old new : Option Stack}
     (was is : Stack)

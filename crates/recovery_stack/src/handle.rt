@@ -3,6 +3,8 @@ ghost use Rattle.std.specs.Prelude.{◌≡◌, ◌≤◌, Some, None, is_some, I
 ghost use Rattle.std.specs.List.{All};
 ghost use Rattle.recovery_base.specs.Ids.{longest_cid};
 ghost use Rattle.recovery_engine.specs.Kept.{PassesEvent};
+ghost use Rattle.recovery_engine.specs.declared.sending.Call.TheVariants.{TakeAck};
+ghost use Rattle.recovery_events.specs.declared.event.Event.TheVariants.{Send};
 ghost use Rattle.recovery_stack.specs.Answers.{AppliesToHeld, HandleApplies, IsBadArgument, IssuesIdsOrNoMemory};
 ghost use Rattle.recovery_stack.specs.Held.{HoldsIf};
 ghost use Rattle.recovery_stack.specs.SenderCalls.{CallsSender, AsksWith, ProbesHandle};
@@ -12,9 +14,10 @@ use crate::slot::Slot;
 use crate::stack::Stack;
 use recovery_base::below::SpaceId;
 use recovery_base::time::Instant;
-use recovery_engine::sending::{AckRange, Call};
+use recovery_engine::sending::{AckRange, AckRoom, Call};
 use recovery_engine::spelling::EncodedReply;
 use recovery_events::event::Event;
+use recovery_losses::Ack;
 use recovery_queue::items::ItemQueue;
 use std::alloc::Global;
 
@@ -92,30 +95,64 @@ impl Handle {
         reply
     }
 
-    /// Makes a call of a sender other than an ACK frame; an error if no stack is held.
+    /// Records a sent packet: the event `Send`, without the match over all events; an error if no stack is held.
     #[inline(always)]
-    pub fn call_sender(&mut self, alloc: Global, call: Call) -> EncodedReply
-        ensures { CallsSender self.old.slot.held call result self.new.slot.held }
-    {
-        self.call_sender_with(alloc, call, &[])
-    }
-
-    /// Makes a call of a sender, with the ranges of an ACK frame; an error if no stack is held. Inlined, so that no
-    /// export has the code of another call.
-    #[inline(always)]
-    pub fn call_sender_with(
+    pub fn send(
         &mut self,
         alloc: Global,
-        call: Call,
-        ranges: &[AckRange],
+        space: SpaceId,
+        now: Instant,
+        size: u16,
+        ack_eliciting: bool,
+        largest_acked: Option<u64>,
+        queue: ItemQueue,
     ) -> EncodedReply
-        ensures { AsksWith self.old.slot.held call ranges.now result self.new.slot.held }
+        ensures { HandleApplies self.old.slot.held
+            (Send space now size ack_eliciting largest_acked queue tt) result self.new.slot.held }
     {
         if !self.holds {
             return EncodedReply::no_recovery();
         }
         let mut stack = self.slot.take(alloc);
-        let reply = stack.call_sender(alloc, call, ranges);
+        let reply = stack.send(space, now, size, ack_eliciting, largest_acked, queue);
+        self.slot.put(stack);
+        reply
+    }
+
+    /// Processes an ACK frame of a sender; an error if no stack is held.
+    #[inline(always)]
+    pub fn take_frame(
+        &mut self,
+        alloc: Global,
+        space: SpaceId,
+        now: Instant,
+        ranges: &[AckRange],
+        ack: Ack,
+        room: AckRoom,
+    ) -> EncodedReply
+        ensures { AsksWith self.old.slot.held (TakeAck space now ack room) ranges.now result
+            self.new.slot.held }
+    {
+        if !self.holds {
+            return EncodedReply::no_recovery();
+        }
+        let mut stack = self.slot.take(alloc);
+        let reply = stack.take_ack(alloc, space, now, ranges, ack, room);
+        self.slot.put(stack);
+        reply
+    }
+
+    /// Makes a call of a sender other than an ACK frame; an error if no stack is held. Inlined, so that no export has
+    /// the code of another call.
+    #[inline(always)]
+    pub fn call_sender(&mut self, alloc: Global, call: Call) -> EncodedReply
+        ensures { CallsSender self.old.slot.held call result self.new.slot.held }
+    {
+        if !self.holds {
+            return EncodedReply::no_recovery();
+        }
+        let mut stack = self.slot.take(alloc);
+        let reply = stack.call_sender(alloc, call, &[]);
         self.slot.put(stack);
         reply
     }

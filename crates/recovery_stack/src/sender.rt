@@ -12,7 +12,7 @@ use crate::codes::{space_coded, span};
 use crate::handle::Handle;
 use recovery_base::below::{EcnCounts, SpaceId};
 use recovery_base::time::Instant;
-use recovery_engine::sending::{AckRange, AckRoom, Call, OutcomeView};
+use recovery_engine::sending::{AckRange, AckRoom, OutcomeView};
 use recovery_engine::spelling::EncodedReply;
 use recovery_engine::views::SenderView;
 use recovery_losses::{Ack, Side};
@@ -46,6 +46,7 @@ pub struct AckFrame {
 }
 
 /// Returns the fields of a frame, if its delay has less than 10^9 nanoseconds.
+#[inline(always)]
 fn ack_of(given: &AckFrame) -> Option<Ack>
     ensures { result ≡ ack_given given.now }
 {
@@ -63,6 +64,7 @@ fn ack_of(given: &AckFrame) -> Option<Ack>
 }
 
 /// Returns the space and the fields of a frame.
+#[inline(always)]
 fn frame_of(space: u8, given: &AckFrame) -> Option<(SpaceId, Ack)>
     ensures { result ≡ frame_given space given.now }
 {
@@ -70,6 +72,7 @@ fn frame_of(space: u8, given: &AckFrame) -> Option<(SpaceId, Ack)>
 }
 
 /// Returns the room that the caller has for the outcome.
+#[inline(always)]
 fn room_of(given: &AckFrame) -> AckRoom
     ensures { result ≡ room_given given.now }
 {
@@ -97,6 +100,7 @@ impl Handle {
     /// Processes a received ACK frame (RFC 9002, A.7), with its ranges, the highest first, as on the wire. An error if
     /// there is no such space, or if its delay has 10^9 nanoseconds or more. Nothing changes if the caller has too
     /// little room.
+    #[inline(always)]
     pub fn take_ack(
         &mut self,
         alloc: Global,
@@ -111,15 +115,13 @@ impl Handle {
         let Some((space, ack)) = frame_of(space, frame) else {
             return EncodedReply::bad_argument();
         };
-        self.call_sender_with(
+        self.take_frame(
             alloc,
-            Call::TakeAck {
-                space,
-                now: Instant::from_nanos(now),
-                ack,
-                room: room_of(frame),
-            },
+            space,
+            Instant::from_nanos(now),
             ranges,
+            ack,
+            room_of(frame),
         )
     }
 

@@ -45,7 +45,8 @@ where
     }
 
     /// A packet is sent (RFC 9002, A.5).
-    pub(super) fn send(
+    #[inline(always)]
+    pub(crate) fn send(
         &mut self,
         space: SpaceId,
         now: Instant,
@@ -93,7 +94,8 @@ where
     }
 
     /// A packet is acknowledged (RFC 9002, A.7).
-    pub(super) fn acked(
+    #[inline(always)]
+    pub(crate) fn acked(
         &mut self,
         space: SpaceId,
         now: Instant,
@@ -114,6 +116,46 @@ where
             .paths
             .on_packet_acked(space, number, now, &packet, app_limited);
         Ok(Answer::Acked { probe })
+    }
+
+    /// A packet is sent, out of line: the match over all events is inlined.
+    #[inline(never)]
+    pub(super) fn send_apart(
+        &mut self,
+        space: SpaceId,
+        now: Instant,
+        size: u16,
+        ack_eliciting: bool,
+        largest_acked: Option<u64>,
+        queue: Q,
+        stream_frames: Q::Meta,
+    ) -> Result<Answer<Q>, Refusal>
+        ensures { Transition (Send space now size ack_eliciting largest_acked queue stream_frames)
+            self.old result self.new }
+    {
+        self.send(
+            space,
+            now,
+            size,
+            ack_eliciting,
+            largest_acked,
+            queue,
+            stream_frames,
+        )
+    }
+
+    /// A packet is acknowledged, out of line: the match over all events is inlined.
+    #[inline(never)]
+    pub(super) fn acked_apart(
+        &mut self,
+        space: SpaceId,
+        now: Instant,
+        number: u64,
+        app_limited: bool,
+    ) -> Result<Answer<Q>, Refusal>
+        ensures { Transition (Acked space now number app_limited) self.old result self.new }
+    {
+        self.acked(space, now, number, app_limited)
     }
 
     /// A packet is lost (RFC 9002, A.10).

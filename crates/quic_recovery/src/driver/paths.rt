@@ -36,7 +36,7 @@ where
 
     /// An RTT sample (RFC 9002, 5).
     #[inline(always)]
-    pub(super) fn sample(&mut self, delay: Duration, rtt: Duration) -> Result<Answer<Q>, Refusal>
+    pub(crate) fn sample(&mut self, delay: Duration, rtt: Duration) -> Result<Answer<Q>, Refusal>
         ensures { Transition (Sample delay rtt) self.old result self.new }
     {
         self.paths.current.sample(delay, rtt);
@@ -136,7 +136,7 @@ where
 
     /// A datagram is to be transmitted (RFC 9000, 8.1; RFC 9002, 7.7).
     #[inline(always)]
-    pub(super) fn transmit(
+    pub(crate) fn transmit(
         &mut self,
         now: Instant,
         bytes: u16,
@@ -190,7 +190,7 @@ where
 
     /// All packets that an ACK newly acknowledges were reported.
     #[inline(always)]
-    pub(super) fn end_acks(
+    pub(crate) fn end_acks(
         &mut self,
         now: Instant,
         app_limited: bool,

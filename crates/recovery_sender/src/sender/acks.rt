@@ -99,6 +99,7 @@ fn is_marked<Q>(answer: &Answer<Q>) -> bool
 }
 
 /// Appends the numbers of the packets that are tracked in a range. Fails with `NoMemory`.
+#[inline(always)]
 fn take_range<Q>(
     packets: &SentPackets<Q>,
     first: u64,
@@ -130,6 +131,7 @@ where
 
 /// Returns what a frame newly acknowledges, in the memory of `room`. Fails with `NoMemory`. Cost: logarithmic for each
 /// range and each newly acknowledged packet.
+#[inline(always)]
 fn find_newly<Q>(
     alloc: Global,
     packets: &SentPackets<Q>,
@@ -215,6 +217,7 @@ where
 
     /// Returns what a frame with these ranges would newly acknowledge, while its packets are still tracked and their
     /// contents can be read. Reuses the memory of `room`. The errors are those of [`Sender::on_ack`].
+    #[inline(always)]
     pub fn newly_acked(
         &self,
         space: SpaceId,
@@ -244,6 +247,7 @@ where
 
     /// Makes the second half of [`Sender::on_ack`], with the result of [`Sender::newly_acked`] for the same frame and
     /// state.
+    #[inline(always)]
     pub fn on_newly_acked(
         &mut self,
         space: SpaceId,
@@ -270,6 +274,7 @@ where
 
     /// Checks a frame. Fails with `SpaceDiscarded`, `BadRange` if the ranges are invalid, `Unsent` if a number is above
     /// all that were sent, or `SkippedAcked`, in this order.
+    #[inline(always)]
     fn check_ack(&self, space: SpaceId, ranges: &[(u64, u64)]) -> Result<(), SenderError>
         ensures small { OnOk result (IfSome (largest_of ranges.now)
             (λ largest. largest + 1 < u64_limit)) }
@@ -291,6 +296,7 @@ where
     }
 
     /// Fails with `SkippedAcked` if a range holds the number that was skipped last (RFC 9000, 21.4).
+    #[inline(always)]
     fn check_ranges(&self, space: SpaceId, ranges: &[(u64, u64)]) -> Result<(), Refusal>
         ensures ok { OnOk result (AreNotSkipped space ranges.now self.now.recovery.recovery) }
         ensures refused { IfErr result (λ refusal. (at : ℕ) × (at < length ranges.now)
@@ -307,6 +313,7 @@ where
     }
 
     /// Acknowledges each of these numbers.
+    #[inline(always)]
     fn tell_acked(&mut self, space: SpaceId, now: Instant, app_limited: bool, numbers: &[u64])
         requires tracked { (number : ℕ) → IsOneOf number numbers.now
             → packet_at (packets_in (state_in self.old) space) number ≢ None }
@@ -315,12 +322,7 @@ where
         ensures left { AreAcked space numbers.now self.old self.new }
     {
         for number in numbers {
-            self.tell(Event::Acked {
-                space,
-                now,
-                number: *number,
-                app_limited,
-            });
+            self.tell_packet_acked(space, now, *number, app_limited);
         }
     }
 
@@ -334,6 +336,7 @@ where
     }
 
     /// Returns when a tracked packet was sent, if that was on the path in use (RFC 9000, 9.4).
+    #[inline(always)]
     fn sent_on(&self, space: SpaceId, number: u64) -> Option<Instant>
         ensures { result ≡ sent_on (state_in self.now) space number }
     {
@@ -346,6 +349,7 @@ where
 
     /// Takes an RTT sample, if any (RFC 9002, 5.1 and 5.3). In the space of 1-RTT packets the ACK delay is subtracted,
     /// up to the peer's max_ack_delay.
+    #[inline(always)]
     fn sample(&mut self, space: SpaceId, delay: Duration, rtt: Option<Duration>)
         ensures { SamplesRtt space delay self.old self.new rtt }
     {
@@ -353,12 +357,13 @@ where
             return;
         };
         let delay = self.variables.delay_counted(space, delay);
-        self.tell(Event::Sample { delay, rtt });
+        self.tell_sample(delay, rtt);
         self.mark_first_packet(space);
     }
 
     /// Marks the next packet of a space as the first one after an RTT sample, if none is marked (RFC 9002, 7.6.2). The
     /// path in use has a sample.
+    #[inline(always)]
     fn mark_first_packet(&mut self, space: SpaceId)
         requires { (state_in self.old).paths.current.state.rtt.smoothed ≢ None }
         ensures { let old = state_in self.old in TakesSteps (first_marked old space
@@ -377,6 +382,7 @@ where
     }
 
     /// Stops ECN marking on the path in use (RFC 9000, 13.4.2.1).
+    #[inline(never)]
     fn stop_ecn(&mut self)
         ensures { TakesSteps (unmarked (state_in self.old) ∷ []) self.old self.new }
     {
@@ -385,6 +391,7 @@ where
     }
 
     /// Sets whether packets are marked on the path in use, and which of them is the first one after an RTT sample.
+    #[inline(never)]
     fn set_marks(&mut self, sending_ecn: bool, first: Option<(SpaceId, u64)>)
         requires { IsMarkable (state_in self.old) first }
         ensures { TakesSteps (marked (with_marks_now (state_in self.old) sending_ecn first) ∷ [])
@@ -436,6 +443,7 @@ where
     }
 
     /// Processes the ECN counts of a frame (RFC 9002, A.7 and B.7; RFC 9000, 13.4.2.1).
+    #[inline(always)]
     fn process_ecn(
         &mut self,
         space: SpaceId,
@@ -461,6 +469,7 @@ where
     }
 
     /// Compares the ECN counts with those before.
+    #[inline(never)]
     fn compare_ecn(
         &mut self,
         space: SpaceId,
@@ -502,6 +511,7 @@ where
     }
 
     /// Returns the time since the largest number of a frame was sent, if it is an RTT sample (RFC 9002, 5.1).
+    #[inline(always)]
     fn rtt_of(
         &self,
         space: SpaceId,
@@ -520,6 +530,7 @@ where
 
     /// Returns whether the window must not grow: the caller had too little to send (RFC 9002, 7.8), or the path in use
     /// is being validated. An ACK may then be for a packet on the path before it (RFC 9000, 9.4).
+    #[inline(always)]
     fn is_limited(&self, app_limited: bool) -> bool
         ensures { result ≡ is_limited (state_in self.now) app_limited }
     {
@@ -527,6 +538,7 @@ where
     }
 
     /// Returns whether a sample is the first one of the path in use (RFC 9002, 7.6.2).
+    #[inline(always)]
     fn is_first_sample(&self, rtt: &Option<Duration>) -> bool
         ensures { result ≡ is_first_sample (state_in self.now) rtt.now }
     {
@@ -534,19 +546,17 @@ where
     }
 
     /// Ends the acknowledgements of a frame (RFC 9002, 7).
+    #[inline(always)]
     fn end_acks(&mut self, space: SpaceId, now: Instant, app_limited: bool)
         ensures { TakesSteps (occurs (EndAcks now app_limited
             (largest_in (state_in self.old) space)) ∷ []) self.old self.new }
     {
         let largest = self.largest_acked(space);
-        self.tell(Event::EndAcks {
-            now,
-            app_limited,
-            largest,
-        });
+        self.tell_end_acks(now, app_limited, largest);
     }
 
     /// Processes a frame that newly acknowledges something (RFC 9002, A.7).
+    #[inline(always)]
     fn acknowledge(
         &mut self,
         space: SpaceId,
@@ -584,6 +594,7 @@ where
 
     /// Records that the peer acknowledged something now, perhaps with the first RTT sample of the path, and sets the
     /// timer.
+    #[inline(always)]
     fn hear(&mut self, space: SpaceId, now: Instant, is_first: bool)
         ensures { CompletesCall []
             (heard_in space now (sampled_first is_first now self.old.variables)) self.old self.new }

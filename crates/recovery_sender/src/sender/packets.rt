@@ -16,7 +16,7 @@ use rand_core::Rng;
 use recovery_base::below::SpaceId;
 use recovery_base::time::Instant;
 use recovery_congestion::congestion::{Controller, ControllerFactory};
-use recovery_events::event::{Answer, Event, Refusal};
+use recovery_events::event::{Answer, Refusal};
 use recovery_queue::queue::RetransmitQueue;
 
 /// Whether a datagram may be sent.
@@ -76,6 +76,7 @@ where
     /// packets by `send` before the next datagram. If nothing in it counts in flight, or a probe is due in the space,
     /// only the amplification limit is checked (RFC 9002, 7, 7.5 and 7.7). Fails, without a change, with
     /// `SpaceDiscarded`, then with `Overflow` if the bytes transmitted on the path would exceed `u64::MAX`.
+    #[inline(always)]
     pub fn transmit(
         &mut self,
         now: Instant,
@@ -121,6 +122,7 @@ where
 
     /// Records a sent packet, as [`Event::Send`] and with its errors. The probe timeout of its space is measured from
     /// the last ack-eliciting packet (RFC 9002, 6.2.1 and A.5).
+    #[inline(always)]
     pub fn send(
         &mut self,
         space: SpaceId,
@@ -135,7 +137,7 @@ where
             (Event.Send space now size ack_eliciting largest_acked queue stream_frames)
             self.old self.new result }
     {
-        let sent = self.apply(Event::Send {
+        let sent = self.apply_send(
             space,
             now,
             size,
@@ -143,7 +145,7 @@ where
             largest_acked,
             queue,
             stream_frames,
-        });
+        );
         match sent {
             Ok(answer) => {
                 self.goes_on(
@@ -182,6 +184,7 @@ where
 
     /// Returns whether window and pacer are checked for a datagram with packets of a space; `None` if that is
     /// discarded.
+    #[inline(always)]
     fn is_checked(&self, space: SpaceId, in_flight: bool) -> Option<bool>
         ensures { result ≡ (if is_discarded space (state_in self.now).discarded then None
             else Some (is_checked self.now.variables space in_flight)) }
@@ -191,6 +194,7 @@ where
     }
 
     /// Sends the datagram, if limit, window and pacer permit.
+    #[inline(always)]
     fn transmit_where_it_may(&mut self, now: Instant, bytes: u16, is_checked: bool) -> Transmission
         requires total { (state_in self.old).paths.current.state.total_sent + bytes < u64_limit }
         ensures value { result
@@ -207,6 +211,7 @@ where
     }
 
     /// Returns whether the window has no room for `bytes` more (RFC 9002, 7).
+    #[inline(always)]
     fn is_full(&self, bytes: u16) -> bool
         ensures { result ≡ is_full F.Controller.words (state_in self.now) bytes }
     {
@@ -216,6 +221,7 @@ where
     }
 
     /// Sends the datagram, if the pacer permits.
+    #[inline(always)]
     fn transmit_now(&mut self, now: Instant, bytes: u16, is_checked: bool) -> Transmission
         requires total { (state_in self.old).paths.current.state.total_sent + bytes < u64_limit }
         requires limit { is_blocked (state_in self.old).paths.current.state bytes ≡ false }
@@ -225,12 +231,7 @@ where
             ≡ transmission F.Controller.words (state_in self.old) now bytes is_checked }
         ensures steps { TakesSteps (transmit_steps now bytes is_checked result) self.old self.new }
     {
-        let event = Event::Transmit {
-            now,
-            bytes,
-            checked: is_checked,
-        };
-        match self.tell(event) {
+        match self.tell_transmit(now, bytes, is_checked) {
             Answer::Transmitted => Transmission::Transmitted,
             Answer::Delayed(until) => Transmission::Delayed(until),
             _ => unreachable!(),

@@ -1,6 +1,6 @@
 use Rattle.std.proofs.Common.{Some, ap, sym, ◌∙◌}
 use Rattle.recovery_stack.proofs.HeldLaws.{asks_held}
-use Rattle.recovery_stack.proofs.handle.Handle.call_sender_with.Goals as goal
+use Rattle.recovery_stack.proofs.handle.Handle.call_sender.Goals as goal
 
 pub returns : goal.returns
 returns c =

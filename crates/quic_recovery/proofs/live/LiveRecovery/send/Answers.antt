@@ -1,0 +1,10 @@
+use Rattle.quic_recovery.proofs.LiveLaws.{applies_event, comes_live}
+use Rattle.quic_recovery.proofs.live.LiveRecovery.send.Goals as goal
+
+pub invariant_of-self : goal.invariant_of-self
+invariant_of-self g c = record {
+  came = comes_live c.args.self.now.recovery _ _ c.send.new.self c.send.ensures c.args.self.now.came;
+}
+
+pub returns : goal.returns
+returns g c = applies_event c.args.self.now.recovery _ _ c.send.new.self c.send.ensures c.args.self.now.came
