@@ -1,6 +1,7 @@
 //! Transmissions (RFC 9002, 7; RFC 9000, 8.1).
 ghost use Rattle.std.specs.Prelude.{◌≡◌, ◌<◌, ◌≤◌, ◌+◌, ◌∷◌, [], true, false, None, Some, if◌then◌else◌, nat_lt, Ok, IfOk, OnOk, OnErr};
 ghost use Rattle.recovery_base.specs.Units.{u64_limit};
+ghost use Rattle.recovery_events.specs.declared.event.Event.TheVariants.{Send};
 ghost use Rattle.recovery_spaces.specs.Discarded.{is_discarded};
 ghost use Rattle.recovery_paths.specs.PathStates.{is_blocked};
 ghost use Rattle.recovery_losses.specs.Variables.{based, is_probe_due, probed};
@@ -134,7 +135,7 @@ where
         stream_frames: Q::Meta,
     ) -> Result<Answer<Q>, SenderError>
         ensures { EventResult
-            (Event.Send space now size ack_eliciting largest_acked queue stream_frames)
+            (Send space now size ack_eliciting largest_acked queue stream_frames)
             self.old self.new result }
     {
         let sent = self.apply_send(

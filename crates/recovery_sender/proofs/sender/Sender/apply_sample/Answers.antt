@@ -6,13 +6,15 @@ use Rattle.recovery_sender.specs.Senders.{state_in}
 use Rattle.recovery_sender.proofs.sender.Sender.apply_sample.Goals as goal
 
 pub invariant_of-self-clause-bounded : goal.invariant_of-self-clause-bounded
-invariant_of-self-clause-bounded g c = recovery_keeps_bounds _ c.sample.result c.args.self.now.recovery.recovery
-    c.sample.new.self.recovery g.met.F.Controller.Controller.laws g.met.F.ControllerFactory.starts_by_now tt
-    c.sample.ensures.changes c.args.self.now.bounded
+invariant_of-self-clause-bounded g c =
+    recovery_keeps_bounds _ c.sample.result c.args.self.now.recovery.recovery c.sample.new.self.recovery
+    g.met.F.Controller.Controller.laws g.met.F.ControllerFactory.starts_by_now tt c.sample.ensures.changes
+    c.args.self.now.bounded
 
 pub invariant_of-self-clause-explained : goal.invariant_of-self-clause-explained
-invariant_of-self-clause-explained g c = event_explained (state_in c.args.self.now) (state_of c.sample.new.self.recovery)
-    _ c.sample.result c.sample.ensures.extends c.sample.ensures.changes.marks c.args.self.now.explained
+invariant_of-self-clause-explained g c =
+    event_explained (state_in c.args.self.now) (state_of c.sample.new.self.recovery) _ c.sample.result
+    c.sample.ensures.extends c.sample.ensures.changes.marks c.args.self.now.explained
 
 pub returns : goal.returns
 returns g c = record {
