@@ -122,6 +122,7 @@ impl RttEstimator {
     ///
     /// The first sample replaces the estimate, whatever the initial RTT was. From a later one the delay is subtracted,
     /// unless it would then be below the smallest RTT.
+    #[inline(always)]
     pub fn update(&mut self, ack_delay: Duration, rtt: Duration)
         ensures value { self.new ≡ rtt_updated ack_delay rtt self.old }
         ensures between { IsSomeAnd self.new.smoothed (λ smoothed.

@@ -95,6 +95,7 @@ impl Controller for Chosen {
 
     ghost is_sound = { IsChosenSound };
 
+    #[inline(always)]
     fn on_sent(&mut self, now: Instant, bytes: u64, last_packet_number: u64) {
         match self {
             Chosen::Reno(reno) => reno.on_sent(now, bytes, last_packet_number),
@@ -103,6 +104,7 @@ impl Controller for Chosen {
         }
     }
 
+    #[inline(always)]
     fn on_ack(
         &mut self,
         now: Instant,

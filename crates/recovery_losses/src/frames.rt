@@ -18,6 +18,7 @@ pub struct Ack {
 
 /// Returns whether there is a range, none ends before it begins, and two neighbours have at least one number between
 /// them (RFC 9000, 19.3.1).
+#[inline(always)]
 pub fn are_ranges(ranges: &[(u64, u64)]) -> bool
     ensures { result ≡ are_ranges ranges.now }
 {

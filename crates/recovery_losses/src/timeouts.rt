@@ -32,6 +32,7 @@ pub fn loss_delay(threshold: (u64, u64), smoothed: Duration, latest: Duration) -
 /// Returns how long after the last ack-eliciting packet a probe is sent (RFC 9002, 6.2.1), at most `Duration::MAX`.
 /// `base` is the smoothed RTT plus four times its variation: `rtt.pto_base()`. `max_ack_delay` is the peer's in the
 /// space of 1-RTT packets, and zero in the others. Each of the `count` consecutive timeouts doubles the result.
+#[inline(always)]
 pub fn probe_timeout(base: Duration, max_ack_delay: Duration, count: u32) -> Duration
     ensures { result ≡ probe_timeout_of base max_ack_delay count }
 {
@@ -43,6 +44,7 @@ pub fn probe_timeout(base: Duration, max_ack_delay: Duration, count: u32) -> Dur
 }
 
 /// Returns a duration of `nanos` nanoseconds, at most `Duration::MAX`.
+#[inline(always)]
 fn up_to_longest(nanos: u128) -> Duration
     ensures { result ≡ up_to_longest nanos }
 {

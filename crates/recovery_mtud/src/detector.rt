@@ -80,6 +80,7 @@ impl Detector {
 
     /// Records that another packet was acknowledged. A path that carries its size carries all smaller ones: bursts in
     /// which a packet of at most that size was lost had another cause.
+    #[inline(always)]
     pub(crate) fn on_non_probe_acked(&mut self, number: u64, size: u16)
         ensures { self.new ≡ bursts_acked number size self.old }
     {

@@ -158,6 +158,7 @@ impl MtuDiscovery {
     /// Records that a packet of this size was acknowledged. Returns whether it was the probe in flight. If so, its size
     /// is the MTU in use. Outside the Application Data space nothing changes: probes are 1-RTT packets, and other
     /// spaces reuse the numbers (RFC 9000, 12.3).
+    #[inline(always)]
     #[tactic(auto, using(crate::proofs::BurstCallLaws::bursts_acked_sound))]
     pub fn on_acked(&mut self, space: SpaceId, packet_number: u64, packet_bytes: u16) -> bool
         ensures answer { result ≡ same_space space Data && is_probe packet_number self.old }

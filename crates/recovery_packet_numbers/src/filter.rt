@@ -169,6 +169,7 @@ impl PacketNumberFilter {
     ///
     /// Returns `None` and changes nothing if `peek` returns 2^62 or more (RFC 9000, 12.3); no random word is drawn
     /// then.
+    #[inline(always)]
     pub fn allocate<R: Rng>(&mut self, rng: &mut R, next: u64) -> Option<u64>
         ensures answer { SomeIff result (number_by self.old next < number_limit)
             (number_by self.old next) }

@@ -170,6 +170,7 @@ impl<C: Controller + Drop> PathPair<C> {
     /// forgets for it is returned with its number, and is no longer counted on its path. `Overflow` is tested before
     /// anything is forgotten. An error drops the packet and changes nothing else. Cost: amortized constant, plus that
     /// of `take` for a forgotten packet.
+    #[inline(always)]
     pub fn sent<Q>(
         &mut self,
         number: u64,
@@ -197,6 +198,7 @@ impl<C: Controller + Drop> PathPair<C> {
     }
 
     /// Reports to the controller of the path in use that a packet of this size is sent (RFC 9002, B.4).
+    #[inline(always)]
     pub fn on_sent(&mut self, now: Instant, bytes: u64, number: u64)
         ensures { self.new
             ≡ on_path_of Current
@@ -207,6 +209,7 @@ impl<C: Controller + Drop> PathPair<C> {
 
     /// Records that a packet of a space was acknowledged. Returns whether it was the MTU probe in flight. The packet is
     /// no longer counted on its path, and is reported to the path in use, as [`PathData::on_packet_acked`].
+    #[inline(always)]
     pub fn on_packet_acked<Q: RetransmitQueue>(
         &mut self,
         space: SpaceId,

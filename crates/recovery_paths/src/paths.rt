@@ -285,6 +285,7 @@ impl<C: Controller + Drop> PathData<C> {
     /// is returned with its number, and is no longer counted if it is of this path. `Overflow` is tested before
     /// anything is forgotten. An error drops the packet and changes nothing else. Cost: amortized constant, plus that
     /// of `take` for a forgotten packet.
+    #[inline(always)]
     pub fn sent<Q>(
         &mut self,
         number: u64,
@@ -356,6 +357,7 @@ impl<C: Controller + Drop> PathData<C> {
     }
 
     /// Updates the RTT by a sample and the ACK delay that the peer reported (RFC 9002, 5).
+    #[inline(always)]
     pub fn sample(&mut self, ack_delay: Duration, rtt: Duration)
         ensures { self.new ≡ on_state (after_sample ack_delay rtt) self.old }
     {
@@ -363,6 +365,7 @@ impl<C: Controller + Drop> PathData<C> {
     }
 
     /// Reports to the controller that a packet of this size was sent under this number (RFC 9002, B.4).
+    #[inline(always)]
     pub fn on_sent(&mut self, now: Instant, bytes: u64, number: u64)
         ensures { self.new ≡ on_state (after_telling C.words (sends now bytes number)) self.old }
     {
@@ -373,6 +376,7 @@ impl<C: Controller + Drop> PathData<C> {
     /// then is the MTU in use (RFC 8899, 5). If the packet is of this path it is no longer counted, and if it is also
     /// ack-eliciting, it is reported to the controller, after a new MTU. The search comes first, since it identifies a
     /// probe by its number, on whatever path the packet was sent.
+    #[inline(always)]
     pub fn on_packet_acked<Q: RetransmitQueue>(
         &mut self,
         space: SpaceId,
@@ -445,6 +449,7 @@ impl<C: Controller + Drop> PathData<C> {
 
     /// Returns when to ask the pacer again for this many bytes, or `None` if they may be sent now. The pacer is asked
     /// with the path's RTT, MTU and window (RFC 9002, 7.7).
+    #[inline(always)]
     pub fn delay(&mut self, now: Instant, bytes_to_send: u64) -> Option<Instant>
         ensures answer { result ≡ path_delay C.words now bytes_to_send self.old.state }
         ensures asked { self.new ≡ on_state (after_asking C.words now bytes_to_send) self.old }

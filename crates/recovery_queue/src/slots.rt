@@ -190,6 +190,7 @@ impl<T: Drop> SlotQueue<T> {
 
     /// Returns the first position whose number is not below this one, or a position after all slots if there is none,
     /// and how many slots were read.
+    #[inline(always)]
     fn start_of(&self, number: u64) -> (usize, u32)
         ensures divides { Divides self.now number result.0 }
         ensures looks { IsWithinDigits result.1 (length self.now) }
@@ -208,6 +209,7 @@ impl<T: Drop> SlotQueue<T> {
     }
 
     /// Returns the first position whose number is not below this one; if there is none, the count of slots, or more.
+    #[inline(always)]
     pub fn place_from(&self, number: u64) -> usize
         ensures entries { entries_in (drop result self.now) ≡ entries_from number self.now }
         ensures divides { Divides self.now number result }
@@ -218,6 +220,7 @@ impl<T: Drop> SlotQueue<T> {
 
     /// Returns an upper bound on how many items are stored below a number. It is at most the count of all items. Cost:
     /// as `find`.
+    #[inline(always)]
     pub fn filled_below(&self, number: u64) -> usize
         ensures enough { length (filter (is_below number) (entries_in self.now)) ≤ result }
         ensures most { result ≤ length (entries_in self.now) }
@@ -255,6 +258,7 @@ impl<T: Drop> SlotQueue<T> {
     ///
     /// `AllocError` changes nothing, and drops the item. Cost: constant, plus one step for each empty slot at the end
     /// with that number or a higher one, which is dropped. If the slots need more room they are moved.
+    #[inline(always)]
     pub fn push(&mut self, number: u64, item: T) -> Result<(), AllocError>
         requires { IsAboveAll (entries_in self.old) number }
         ensures ok { OnOk result
@@ -439,6 +443,7 @@ fn halve<T>(looks: &mut Looks<'_, T>, number: u64, from: usize, to: usize) -> Re
 }
 
 /// Drops the empty slots before the first filled one. Returns the number of that one, or `first` if there is none.
+#[inline(always)]
 fn trim<T: Drop>(slots: &mut VecDeque<Slot<T>>, first: u64) -> u64
     ensures trimmed { slots.new.items ≡ trimmed slots.old.items }
     ensures first { IsFirst result slots.new.items }
@@ -479,6 +484,7 @@ fn first_with<T>(slots: &VecDeque<Slot<T>>, first: u64, number: u64) -> u64
 }
 
 /// Drops the slots from a number on, all of which are empty. None has a number above the last.
+#[inline(always)]
 fn cut<T: Drop>(slots: &mut VecDeque<Slot<T>>, last: u64, number: u64)
     requires { IsAboveAll (entries_in slots.old.items) number }
     ensures entries { entries_in slots.new.items ≡ entries_in slots.old.items }

@@ -130,6 +130,7 @@ where
     }
 
     /// Returns the number that is forgotten when this packet is sent.
+    #[inline(always)]
     fn forgotten(&self, packet: &SentPacket<Q>) -> Option<u64>
         ensures number { result
             ≡ forgotten_number self.now.last_eliciting packet.now self.now.packets }
@@ -282,6 +283,7 @@ where
 
     /// Returns an upper bound on how many packets with smaller numbers are tracked. It is at most the count of all
     /// tracked packets. Cost: that of `find`.
+    #[inline(always)]
     pub fn count_below(&self, number: u64) -> usize
         ensures enough { length (filter (is_below number) self.now.packets) ≤ result }
         ensures most { result ≤ length self.now.packets }

@@ -211,6 +211,7 @@ fn number_behind(filter: &PacketNumberFilter, space: SpaceId, next: u64) -> u64
 }
 
 /// Records that this number, below 2^62, was assigned. If a 1-RTT number was skipped for it, draws the next skip.
+#[inline(always)]
 fn draw_skip<R: Rng>(filter: &mut PacketNumberFilter, rng: &mut R, space: SpaceId, next: u64)
     requires { number_behind filter.old space next < number_limit }
     ensures { record { filter = filter.new; words = R.stream rng.new }

@@ -192,6 +192,7 @@ impl Controller for NewReno {
     {}
 
     /// Never reduces the window. In congestion avoidance it grows by one MTU for each window of bytes.
+    #[inline(always)]
     fn on_ack(
         &mut self,
         _now: Instant,

@@ -6,9 +6,9 @@ pub tell_packet_acked-requires : goal.tell_packet_acked-requires
 tell_packet_acked-requires g c =
     let i = c.loop-number.invariant in
     acked_answered c.args.space c.args.now _ c.args.app_limited c.loop-number.self.recovery.recovery
-          (still_tracked c.args.space c.args.now c.args.app_limited c.args.numbers.now c.args.self.now
-          c.loop-number.self c.loop-number.number-index c.loop-number-test.true c.requires.tracked c.requires.rising
-          i.packets)
+    (still_tracked c.args.space c.args.now c.args.app_limited c.args.numbers.now c.args.self.now
+    c.loop-number.self c.loop-number.number-index c.loop-number-test.true c.requires.tracked c.requires.rising
+    i.packets)
 
 pub loop-number-preserved : goal.loop-number-preserved
 loop-number-preserved g c =
