@@ -449,7 +449,6 @@ impl<C: Controller + Drop> PathData<C> {
 
     /// Returns when to ask the pacer again for this many bytes, or `None` if they may be sent now. The pacer is asked
     /// with the path's RTT, MTU and window (RFC 9002, 7.7).
-    #[inline(always)]
     pub fn delay(&mut self, now: Instant, bytes_to_send: u64) -> Option<Instant>
         ensures answer { result ≡ path_delay C.words now bytes_to_send self.old.state }
         ensures asked { self.new ≡ on_state (after_asking C.words now bytes_to_send) self.old }

@@ -20,7 +20,7 @@ where
 
     /// Is a probe of the MTU due? The new state of the search is stored once the probe is tracked, so that an error
     /// leaves the search unchanged.
-    #[inline(always)]
+    #[inline(never)]
     pub(super) fn poll_mtu(&mut self, now: Instant) -> Result<Answer<Q>, Refusal>
         ensures { Transition (PollMtu now) self.old result self.new }
     {

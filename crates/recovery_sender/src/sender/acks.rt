@@ -217,7 +217,6 @@ where
 
     /// Returns what a frame with these ranges would newly acknowledge, while its packets are still tracked and their
     /// contents can be read. Reuses the memory of `room`. The errors are those of [`Sender::on_ack`].
-    #[inline(always)]
     pub fn newly_acked(
         &self,
         space: SpaceId,
