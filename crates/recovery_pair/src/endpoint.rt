@@ -1,5 +1,5 @@
 //! An endpoint of a connection: a sender with its caller.
-ghost use Rattle.std.specs.Prelude.{◌≡◌, ◌+◌, ◌<◌, ◌≤◌, ℕ, List, IfOk, false, length, [], ◌∷◌, ◌++◌};
+ghost use Rattle.std.specs.Prelude.{◌≡◌, ◌+◌, ◌<◌, ◌≤◌, ℕ, List, IfOk, MatchResult, false, length, [], ◌∷◌, ◌++◌};
 ghost use Rattle.std.specs.Vec.{vec_len, vec_capacity};
 ghost use Rattle.recovery_pair.specs.Pasts.{Continues, GoesOn, GoesOnQuietly};
 ghost use Rattle.recovery_pair.specs.Turns.{HearTurn, PackTurn, SendTurn, local_turn};
@@ -27,6 +27,14 @@ use std::alloc::Global;
 pub struct Waiting {
     space: SpaceId,
     queue: ItemQueue,
+}
+
+/// The items of one packet, with two copies.
+#[derive(Drop)]
+struct TakenItems {
+    queue: ItemQueue,
+    items: Vec<u64>,
+    told: Vec<u64>,
 }
 
 /// An endpoint of a connection: a sender with its caller.
@@ -170,24 +178,9 @@ where
         ensures waits { PackWaits self.old.waiting.items self.new.waiting.items space result }
         ensures timer { KeepsTimer self.old.sender self.new.sender }
     {
-        let repeated = match contents(&mut self.sender, space) {
-            Ok(queue) => queue,
+        let TakenItems { queue, items, told } = match self.take_items(alloc, space) {
+            Ok(taken) => taken,
             Err(refused) => return Outgoing::Failed(refused),
-        };
-        let queue = take_waiting(&mut self.waiting, space, repeated);
-        let items = match copied(alloc, queue.items()) {
-            Ok(items) => items,
-            Err(refused) => {
-                self.keep(space, queue);
-                return Outgoing::Failed(refused);
-            }
-        };
-        let told = match copied(alloc, queue.items()) {
-            Ok(told) => told,
-            Err(refused) => {
-                self.keep(space, queue);
-                return Outgoing::Failed(refused);
-            }
         };
         let largest = largest_of(&ack.ranges);
         match track(
@@ -218,6 +211,42 @@ where
                 Outgoing::Failed(refused)
             }
         }
+    }
+
+    /// Takes the items of the next packet of a space, with two copies. If that fails, they wait to be sent.
+    #[tactic(auto, using(crate::proofs::WaitLaws::kept_again))]
+    fn take_items(&mut self, alloc: Global, space: SpaceId) -> Result<TakenItems, SenderError>
+        requires room { vec_len self.old.waiting < vec_capacity self.old.waiting }
+        ensures room { IfOk result
+            (λ taken. vec_len self.new.waiting < vec_capacity self.new.waiting) }
+        ensures copies { IfOk result
+            (λ taken. (taken.items.items ≡ taken.queue) × (taken.told.items ≡ taken.queue)) }
+        ensures goes { Continues GoesOnQuietly self.old.sender self.new.sender }
+        ensures waits { MatchResult result
+            (λ taken. LosesOne self.old.waiting.items self.new.waiting.items space taken.queue)
+            (λ refused. LosesNone self.old.waiting.items self.new.waiting.items) }
+        ensures timer { KeepsTimer self.old.sender self.new.sender }
+    {
+        let repeated = match contents(&mut self.sender, space) {
+            Ok(queue) => queue,
+            Err(refused) => return Err(refused),
+        };
+        let queue = take_waiting(&mut self.waiting, space, repeated);
+        let items = match copied(alloc, queue.items()) {
+            Ok(items) => items,
+            Err(refused) => {
+                self.keep(space, queue);
+                return Err(refused);
+            }
+        };
+        let told = match copied(alloc, queue.items()) {
+            Ok(told) => told,
+            Err(refused) => {
+                self.keep(space, queue);
+                return Err(refused);
+            }
+        };
+        Ok(TakenItems { queue, items, told })
     }
 
     /// Items wait to be sent. There is room for them.

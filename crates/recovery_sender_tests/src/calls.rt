@@ -292,13 +292,10 @@ fn a_server(rt: HostRuntime) {
 }
 
 /// What a stack reads of a server: the amplification limit is three times what was received (RFC 9000, 8.1), and the
-/// pacer permits a burst of ten datagrams, as the window does. Before the first RTT sample the probe timeout is three
-/// times the initial RTT (RFC 9002, 6.2.1 and 6.2.2): 300 ms for 100 ms, and 600 ms for 200 ms. In the space of 1-RTT
-/// packets the peer's delay of 25 ms is added.
+/// pacer permits a burst of ten datagrams, as the window does.
 #[test]
-fn what_is_read(rt: HostRuntime) {
+fn rooms_that_are_read(rt: HostRuntime) {
     let (initial, data) = (SpaceId::Initial, SpaceId::Data);
-    let (first, second) = (Some(300_000_000), Some(600_000_000));
     let rows = [
         (Call::State, Said::AwaitsPeer, None),
         (
@@ -313,7 +310,6 @@ fn what_is_read(rt: HostRuntime) {
             None,
         ),
         (Call::State, Said::Idle, None),
-        (Call::InitialRtt(100_000_000), Said::Done, None),
         (
             Call::Transmit(0, 1200, initial, true),
             Said::Transmitted,
@@ -326,15 +322,37 @@ fn what_is_read(rt: HostRuntime) {
             None,
         ),
         (Call::State, Said::AwaitsPeer, None),
+        (Call::Validated, Said::Done, Some(999_000_000)),
+        (
+            Call::Rooms(data),
+            Said::Rooms(10_800, 10_800, None, None),
+            Some(999_000_000),
+        ),
+    ];
+    run(&rt, rt.alloc(), Side::Server, rows);
+}
+
+/// What the timer of a server waits for. Before the first RTT sample the probe timeout is three times the initial RTT
+/// (RFC 9002, 6.2.1 and 6.2.2): 300 ms for 100 ms, and 600 ms for 200 ms. In the space of 1-RTT packets the peer's
+/// delay of 25 ms is added.
+#[test]
+fn states_that_are_read(rt: HostRuntime) {
+    let (initial, data) = (SpaceId::Initial, SpaceId::Data);
+    let (first, second) = (Some(300_000_000), Some(600_000_000));
+    let rows = [
+        (Call::Datagram(400), Said::Done, None),
+        (Call::InitialRtt(100_000_000), Said::Done, None),
+        (
+            Call::Transmit(0, 1200, initial, true),
+            Said::Transmitted,
+            None,
+        ),
+        (Call::Send(0, 1200, initial), Said::Sent(0), None),
+        (Call::State, Said::AwaitsPeer, None),
         (Call::Datagram(1), Said::Done, first),
         (Call::State, Said::AwaitsProbes(initial), first),
         (Call::InitialRtt(200_000_000), Said::Done, second),
         (Call::Validated, Said::Done, second),
-        (
-            Call::Rooms(data),
-            Said::Rooms(10_800, 10_800, None, None),
-            second,
-        ),
         (Call::Discard(0, initial), Said::Done, None),
         (Call::Send(0, 1000, data), Said::Sent(0), None),
         (Call::State, Said::AwaitsConfirmation, None),

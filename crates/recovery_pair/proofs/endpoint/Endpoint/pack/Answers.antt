@@ -1,4 +1,4 @@
-use Rattle.std.proofs.Common.{refl}
+use Rattle.std.proofs.Common.{refl, sym}
 use Rattle.recovery_pair.specs.Flights.{counted_if}
 use Rattle.recovery_pair.proofs.QuietLaws.{quietly_then}
 use Rattle.recovery_pair.proofs.TurnLaws.{quietly_sends, sends_quietly}
@@ -6,8 +6,8 @@ use Rattle.recovery_pair.proofs.endpoint.Endpoint.pack.Goals as goal
 
 pub returns-in-Ok-track-clause-goes : goal.returns-in-Ok-track-clause-goes
 returns-in-Ok-track-clause-goes g c =
-    let first = c.in-Ok-copied.ensures in
-    let second = c.in-Ok-copied-2.ensures in
+    let first = c.in-Ok.ensures.copies.0 in
+    let second = c.in-Ok.ensures.copies.1 in
     record {
       sender = refl;
       there = refl;
@@ -18,22 +18,22 @@ returns-in-Ok-track-clause-goes g c =
       elicits = refl;
       window_is = refl;
       goes = quietly_sends (counted_if c.args.eliciting c.args.size) c.args.space c.in-Ok-track.number
-          c.args.self.now.sender c.contents.new.sender
-          c.end_acks.new.self.sender c.contents.ensures.goes (sends_quietly (counted_if c.args.eliciting c.args.size)
+          c.args.self.now.sender c.take_items.new.self.sender
+          c.end_acks.new.self.sender c.in-Ok.ensures.goes (sends_quietly (counted_if c.args.eliciting c.args.size)
           c.args.space c.in-Ok-track.number
-          c.contents.new.sender c.track.new.sender c.end_acks.new.self.sender c.in-Ok-track.ensures.goes
+          c.take_items.new.self.sender c.track.new.sender c.end_acks.new.self.sender c.in-Ok-track.ensures.goes
           c.end_acks.ensures.goes);
     }
 
 pub returns-in-Err-track-clause-goes : goal.returns-in-Err-track-clause-goes
-returns-in-Err-track-clause-goes g c = quietly_then c.args.self.now.sender c.contents.new.sender
-    c.keep-in-Err-track.new.self.sender
-    c.contents.ensures.goes (rw c.keep-in-Err-track.ensures.goes c.in-Err-track.ensures.goes)
+returns-in-Err-track-clause-goes g c = quietly_then c.args.self.now.sender c.take_items.new.self.sender
+    c.keep.new.self.sender
+    c.in-Ok.ensures.goes (rw c.keep.ensures.goes c.in-Err-track.ensures.goes)
 
 pub returns-in-Ok-track-clause-timer : goal.returns-in-Ok-track-clause-timer
 returns-in-Ok-track-clause-timer g c = λ has. c.end_acks.ensures.timer (c.in-Ok-track.ensures.timer
-    (c.contents.ensures.timer has))
+    (c.in-Ok.ensures.timer has))
 
 pub returns-in-Err-track-clause-timer : goal.returns-in-Err-track-clause-timer
-returns-in-Err-track-clause-timer g c = λ has. rw c.keep-in-Err-track.ensures.goes (c.in-Err-track.ensures.timer
-    (c.contents.ensures.timer has))
+returns-in-Err-track-clause-timer g c = λ has. rw c.keep.ensures.goes (c.in-Err-track.ensures.timer
+    (c.in-Ok.ensures.timer has))
