@@ -11,7 +11,9 @@ import argparse
 import collections
 import itertools
 import os
+import pathlib
 import random
+import re
 import subprocess
 import sys
 import tempfile
@@ -32,9 +34,18 @@ class Falsified(Exception):
     """Which statement an answer contradicts."""
 
 
+CHECKED = collections.Counter()  # how often each statement was checked
+
+
 def holds(what, fact):
+    CHECKED[what] += 1
     if not fact:
         raise Falsified(what)
+
+
+def statements():
+    """All statements that this file checks."""
+    return re.findall(r'(?<!\.)\bholds\("([^"]+)"', pathlib.Path(__file__).read_text())
 
 
 class Packet:
@@ -56,6 +67,7 @@ class World:
         words, said = step.split(), answer.split()
         taken = {"hand": self.hand, "send": self.send, "arrive": self.arrive, "expire": self.expire, "discard": self.discard}
         if said[0] in ("refused", "failed"):
+            holds("a step is refused only for a discarded space", said[2:] == ["SpaceDiscarded"] and tuple(words[1:3]) in self.discarded)
             return
         if words[0] == "validated":
             self.validated.add(words[1])
@@ -102,7 +114,8 @@ class World:
             holds("what counts is sent only if the window has room", self.flight(end) + packet.size <= window)
             self.windows[end] = max(window, self.windows[end])
         packet.is_probe = packet.elicits and "window" not in said
-        holds("only probes are not checked", not packet.is_probe or self.due[packet.key[:2]] > 0)
+        if packet.is_probe:
+            holds("only probes are not checked", self.due[packet.key[:2]] > 0)
         probes = sum(it.size for it in [*self.packets.values(), packet] if it.key[0] == end and it.is_probe and not it.outcome)
         flight = self.flight(end) + packet.size * packet.elicits
         holds("the flight exceeds the largest window by the probes at most", flight <= self.windows[end] + probes)
@@ -121,13 +134,15 @@ class World:
     def all_kept(self, end, space):
         """An endpoint has nothing to send: each item is in a packet that was acknowledged or is outstanding."""
         kept = {item for it in self.of(end, space) if it.outcome in (None, "acked") for item in it.items}
-        holds("no item is lost", (end, space) in self.discarded or set(self.handed[end, space]) <= kept)
+        if self.handed[end, space]:
+            holds("no item is lost", set(self.handed[end, space]) <= kept)
 
     def repeated(self, end, space, item):
         carriers = [it for it in self.of(end, space) if item in it.items]
         lost = sum(it.outcome == "lost" for it in carriers)
         once = self.handed[end, space].count(item)
-        holds("an item is sent again only for a loss or a probe", len(carriers) <= once + lost + self.probes[end, space])
+        if len(carriers) > once:
+            holds("an item is sent again only for a loss or a probe", len(carriers) <= once + lost + self.probes[end, space])
 
     # ---- receiving
 
@@ -140,7 +155,7 @@ class World:
         self.came[end] += packet.size
         key = end, space, int(number)
         if fate == "dropped":
-            holds("dropped only without keys", (end, space) in self.discarded)
+            holds("dropped only without keys", (end, space) in self.discarded and rest[-1] == "SpaceDiscarded")
         elif fate == "duplicate":
             holds("a duplicate", key in self.heard or int(number) + 129 <= max(it[2] for it in self.heard if it[:2] == key[:2]))
         else:
@@ -155,9 +170,8 @@ class World:
         self.heard[key] = items
         self.heard_at[end, space] = max(self.heard_at.get((end, space), (-1, 0)), (key[2], now))
         self.delivered[packet.key[0], space] += items
-        if ack[:1] == ["ack"]:
-            holds("no ACK is rejected", "SpaceDiscarded" in ack)
-        elif ack:
+        if ack:
+            holds("no ACK is rejected", ack[0] == "acked")
             self.acknowledged(end, space, ack)
 
     def acknowledged(self, end, space, ack):
@@ -227,8 +241,10 @@ def adversary(run, spaces, draw, count):
             run.step(f"arrive {draw.choice((wire - 1, draw.randrange(wire), max(0, wire - 3)))} {run.now}")
         elif kind < 0.95:
             run.step(f"expire {end} {run.now}")
-        else:
+        elif kind < 0.999 or len(spaces) == 1:
             run.step(f"late {end} {run.now}")
+        else:
+            run.step(f"discard {end} {draw.choice(spaces[:-1])} {run.now}")
 
 
 def delivered(run):
@@ -239,7 +255,7 @@ def deliver(run):
     """The network delivers: all that was handed in arrives."""
     for _ in range(ROUNDS):
         if delivered(run):
-            return
+            break
         before = len(run.world.wire)
         for end in ENDS:
             for _ in range(40):
@@ -253,7 +269,7 @@ def deliver(run):
         run.now += 4 * SECOND
         for end in ENDS:
             run.step(f"expire {end} {run.now}")
-    holds("all items arrive at last", False)
+    holds("all items arrive at last", delivered(run))
 
 
 def played(program, seed):
@@ -328,6 +344,8 @@ def main():
             tests.passed += not why
             if why:
                 tests.holds("a short schedule", False, why)
+    for what in statements() if len(seeds) >= 60 else []:  # few seeds need not meet every case
+        tests.holds(f"{what}: checked at least once", CHECKED[what])
     tests.end()
 
 

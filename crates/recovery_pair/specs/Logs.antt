@@ -111,14 +111,14 @@ module _ (end : End) where
       if same_end to end && same_space there space then number ∷ numbers_at space earlier else numbers_at space earlier
   numbers_at space (event ∷ earlier) = numbers_at space earlier
 
-  -- by a measure of the items of a packet: what it was handed in a space
+  -- the sum of a measure over the items that the caller passed to the endpoint, to be sent in a space
   abbrev pub handed : (List ℕ → ℕ) → SpaceId → PairLog → ℕ
   handed measure space [] = 0
   handed measure space ((Local at (Hand there items), Ok Done) ∷ earlier) =
       part (same_end at end && same_space there space) (measure items.items) + handed measure space earlier
   handed measure space (event ∷ earlier) = handed measure space earlier
 
-  -- and what it sent there
+  -- and over the items that the endpoint sent there
   abbrev pub sent_in : (List ℕ → ℕ) → SpaceId → PairLog → ℕ
   sent_in measure space [] = 0
   sent_in measure space ((Send from there now size, Ok (Sent number items eliciting window delay)) ∷ earlier) =

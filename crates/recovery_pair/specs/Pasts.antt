@@ -182,7 +182,8 @@ module _ {Q S M P : Type 0} where
   abbrev pub GoesOnQuietly : History Q S M P → History Q S M P → Type 0
   GoesOnQuietly = GoesOn quiet
 
-  -- a packet is sent under a number that was not used before, in a datagram of this size; so many bytes count
+  -- a packet is sent under a number that was not used before, in a datagram of this size; `counted` bytes of the packet
+  -- count in flight
   pub record SendsNumber (size counted : ℕ) (space : SpaceId) (n : ℕ) (past after : History Q S M P) : Type 0 where
     pub goes : GoesOn (packet_leaving size counted space n) past after
     pub unused : WasSentUnder space n past → ⊥

@@ -20,8 +20,9 @@ use Rattle.recovery_pair.specs.declared.steps.PairStep.{PairStep}
 use Rattle.recovery_pair.specs.declared.steps.PairStep.TheVariants.{Send}
 
 module _ (Idle : Type 0) (in_flight : Bool) (checked : Option ℕ) (said : Result Transmission SenderError) where
-  -- what is sent was permitted, as what counts in flight or not, and with the window that was checked; what is held
-  -- back was not permitted, for the reason that is reported; and there is nothing to send only if the sender is idle
+  -- The sender permits each packet that is sent. The answer reports whether the packet counts in flight, and the window
+  -- that was checked. If a datagram is held back, the answer is the reason that the sender reports. There is nothing to
+  -- send only if the sender is idle.
   abbrev pub AgreesWith : Result PairAnswer SenderError → Type 0
   AgreesWith (Ok (Sent number items eliciting window delay)) =
       (said ≡ Ok Transmitted) × (eliciting ≡ in_flight) × (window ≡ checked)

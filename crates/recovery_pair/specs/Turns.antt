@@ -69,8 +69,8 @@ module _ {F Q R C K S M P : Type 0} {f : _} {c : _} {q : _} {m : _} {r : _} (old
     TransmitTurn size (Ok Transmitted) = Continues (GoesOn (leaving size)) old new
     TransmitTurn size other = Continues GoesOnQuietly old new
 
-    -- a packet goes out, with the items that are told, and an ACK of numbers that were received; with what is in flight
-    -- it fits into the window that is checked
+    -- A packet is sent, with the items that the answer reports, and with an ACK of numbers that were received. With the
+    -- bytes in flight it fits into the window that is checked.
     pub record SendsPacket (from : End) (space : SpaceId) (now size : ℕ) (packet : WirePacket) (items : Vec ℕ)
         (window : Option ℕ) : Type 0 where
       pub sender : packet.from ≡ from

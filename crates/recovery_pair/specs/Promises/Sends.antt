@@ -1,6 +1,6 @@
--- An endpoint sends what is passed to it. It has nothing to send in a space only once it has sent there no less than
--- was passed to it, by every measure of the items of a packet: how many packets there are, how often an item occurs. An
--- endpoint that drops an item, or sends others instead, and then answers `Nothing`, breaks this.
+-- An endpoint sends what is passed to it. A measure is a number for the items of a packet: 1, to count packets, or how
+-- often an item occurs. Once an endpoint has nothing to send in a space, it has sent there no less than was passed to
+-- it, by every measure. This is false of an endpoint that drops an item, or sends another one, and answers `Nothing`.
 use Rattle.std.specs.Prelude.{ℕ, ◌≤◌, List, Result, Ok}
 use Rattle.recovery_base.specs.declared.below.SpaceId.{SpaceId}
 use Rattle.recovery_sender.specs.declared.sender.SenderError.{SenderError}
