@@ -124,6 +124,9 @@ class World:
         """The ACK delay is the time since the largest number was new (RFC 9000, 13.2.5)."""
         if (end, space) in self.heard_at:
             holds("the ACK delay", int(said[-1]) == max(0, now - self.heard_at[end, space][1]))
+        if "largest" in said:
+            number = int(said[said.index("largest") + 1])
+            holds("an ACK goes up to the largest number received", (end, space, number) in self.heard and number == self.heard_at[end, space][0])
 
     def of(self, end, space):
         return [it for it in self.packets.values() if it.key[:2] == (end, space)]

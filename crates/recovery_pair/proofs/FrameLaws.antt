@@ -13,7 +13,7 @@ use Rattle.recovery_sender.specs.Senders.{state_in}
 use Rattle.recovery_sender.specs.declared.sender.Sender.{Sender}
 use Rattle.recovery_pair.specs.Frames.{IsFrameFor, IsSoundFrame}
 use Rattle.recovery_history.specs.History.{Beginning, History}
-use Rattle.recovery_history.specs.Promises.Acknowledged.{WasReceived}
+use Rattle.recovery_history.specs.Promises.Acknowledged.{WasDropped, WasReceived}
 use Rattle.recovery_history.specs.Reachability.{ReachedBy}
 use Rattle.recovery_history.specs.RecoveryState.{RecoveryState}
 use Rattle.recovery_history.proofs.AcknowledgedLaws.{keeps_to_acknowledge}
@@ -26,6 +26,14 @@ pub pending_received : {F K Q S M P : Type 0} (beginning : Beginning F K Q S M P
 pending_received beginning past recovery came space n pending =
     ((keeps_to_acknowledge beginning past came.replies space n).0
     (((came.state_after.spaces space).acks.pending n).0 pending)).0
+
+-- and those that were received and not dropped are to be acknowledged
+pub received_pending : {F K Q S M P : Type 0} (beginning : Beginning F K Q S M P) (past : History Q S M P)
+    (recovery : RecoveryState K P M) → ReachedBy beginning past recovery → (space : SpaceId) (n : ℕ)
+    → WasReceived space n past → ¬ WasDropped space n past → IsPending (acks_of (space_of space recovery.spaces)) n
+received_pending beginning past recovery came space n was kept =
+    ((came.state_after.spaces space).acks.pending n).1
+    ((keeps_to_acknowledge beginning past came.replies space n).1 (was, kept))
 
 -- ---- a range after the others
 
@@ -89,6 +97,25 @@ frame_in low n (range ∷ ranges) apart is =
     last (inl bounds) = (bounds.0, omega (arith, bounds.1, apart.1))
     last (inr never) = absurd never
 
+in_first : (n : ℕ) (one other : List (ℕ × ℕ)) → IsInAckRanges n one → IsInAckRanges n (one ++ other)
+in_first n [] other is = absurd is
+in_first n (range ∷ one) other (inl here) = inl here
+in_first n (range ∷ one) other (inr there) = inr (in_first n one other there)
+
+in_second : (n : ℕ) (one other : List (ℕ × ℕ)) → IsInAckRanges n other → IsInAckRanges n (one ++ other)
+in_second n [] other is = is
+in_second n (range ∷ one) other is = inr (in_second n one other is)
+
+pub frame_whole : (n : ℕ) (ranges : List (Range ℕ)) → InRanges ranges n → IsInAckRanges n (frame_of ranges)
+unfolding InRanges
+frame_whole n [] is = absurd is
+frame_whole n (range ∷ ranges) (inl here) =
+    let low = here.0 in
+    let high = here.1 in
+    in_second n (frame_of ranges) ((range.start, range.end - 1) ∷ []) (inl (low, omega (arith, high)))
+frame_whole n (range ∷ ranges) (inr there) =
+    in_first n (frame_of ranges) ((range.start, range.end - 1) ∷ []) (frame_whole n ranges there)
+
 next_apart : (low : ℕ) (range : Range ℕ) (ranges : List (Range ℕ)) → AreApart low (range ∷ ranges)
     → is_apart (range.end - 1) (lowest None (frame_of ranges)) ≡ true
 unfolding AreApart
@@ -151,5 +178,8 @@ module _ {F Q R C K S M P : Type 0} {f : _} {c : _} {q : _} {m : _} {r : _} wher
         each = λ n in_frame. subst (λ (there : Space P M). IsPending (acks_of there) n) there
             (subst (λ (ranges : List (Range ℕ)). InRanges ranges n) same
             (frame_has n all apart (subst (IsInAckRanges n) whole in_frame)));
+        whole = λ n pending. subst (IsInAckRanges n) (sym whole)
+            (frame_whole n all (subst (λ (ranges : List (Range ℕ)). InRanges ranges n) (sym same)
+            (subst (λ (it : Space P M). IsPending (acks_of it) n) (sym there) pending)));
         waited = waits ∙ ap (λ (space : Space P M). delay_at now (acks_of space).counts.largest) there;
       }

@@ -1,6 +1,7 @@
 -- An event continues a past.
-use Rattle.std.proofs.Common.{◌≡◌, ℕ, ◌+◌, ◌<◌, ◌≤◌, ◌⊎◌, inl, inr, ◌&&◌, ◌||◌, ◌==◌, nat_eq, nat_lt, nat_le, Bool, true, false, List, [], ◌∷◌, Option, None, Some, Result, Ok, Err, refl, sym, ap, subst, ◌∙◌, arith, true≢false}
+use Rattle.std.proofs.Common.{◌≡◌, ℕ, ◌+◌, ◌<◌, ◌≤◌, ◌⊎◌, inl, inr, ◌&&◌, ◌||◌, ◌==◌, nat_eq, nat_lt, nat_le, Bool, true, false, List, [], ◌∷◌, Option, None, Some, Result, Ok, Err, IsSomeAnd, refl, sym, ap, subst, ◌∙◌, arith, true≢false}
 use Rattle.std.specs.Prelude.{if◌then◌else◌, sum_by}
+use Rattle.std.proofs.lemmas.Bool.{cases_lt}
 use Rattle.std.specs.List.{list_all}
 use Rattle.std.specs.Set.{is_member}
 use Rattle.std.proofs.lemmas.Bool.Decides.{nat_tests}
@@ -16,7 +17,7 @@ use Rattle.recovery_events.specs.declared.event.Refusal.{Refusal}
 use Rattle.recovery_events.specs.declared.event.Refusal.TheVariants.{NoMemory, NumberTooLarge, SpaceDiscarded}
 use Rattle.recovery_paths.specs.declared.path_pair.PathName.TheVariants.{Current}
 use Rattle.recovery_history.specs.History.{History, Reply}
-use Rattle.recovery_history.specs.Promises.Acknowledged.{WasReceived}
+use Rattle.recovery_history.specs.Promises.Acknowledged.{WasReceived, largest_in}
 use Rattle.recovery_history.specs.Promises.Datagrams.{bytes_in, bytes_out, datagrams_on, is_validated}
 use Rattle.recovery_history.specs.Promises.Fates.{HaveOneOutcome, is_given, more_if, times}
 use Rattle.recovery_history.specs.Promises.Forgotten.{ForgetsOldestNonEliciting}
@@ -28,8 +29,9 @@ use Rattle.recovery_history.proofs.TrackedLaws.{one_space}
 use Rattle.recovery_sender.specs.declared.sender.SenderError.{SenderError}
 use Rattle.recovery_sender.specs.declared.sender.SenderError.TheVariants as refused
 use Rattle.recovery_pair.specs.Flights.{Numbers, counted_if, no_numbers}
-use Rattle.recovery_pair.specs.Pasts.{Came, GoesOn, GoesOnQuietly, HearsNumber, IsHeardBy, SendsNumber, EndTurn, WasSentUnder, arriving, bytes_received, bytes_transmitted, came_by, discarding, ending, hearing, is_of, largest_came, leaving, new_by, packet_leaving, quiet, validating, with_largest, with_number}
+use Rattle.recovery_pair.specs.Pasts.{AcksBelow, Came, EndTurn, Endings, GoesOn, GoesOnQuietly, HearsNumber, IsHeardBy, KeepsLargest, SendsNumber, WasSentUnder, added, arriving, bytes_received, bytes_transmitted, discarding, ending, flight_in, hearing, is_of, largest_came, leaving, no_endings, packet_leaving, quiet, validating, with_carried, with_largest, with_number}
 use Rattle.recovery_pair.proofs.FlightLaws.{flight_event, flight_less, gone_again, or_gone, sent_leaves, zero_more}
+use Rattle.recovery_pair.proofs.TopLaws.{acked_top, received_top}
 
 -- it is no receipt, no datagram, and changes neither spaces nor paths
 abbrev pub IsQuietEvent : {Q S M P : Type 0} → Event Q S M P → Type 0
@@ -43,16 +45,17 @@ IsQuietEvent RevertPath = ⊥
 IsQuietEvent event = Unit {0}
 
 -- and no packet is sent; no other packets than these are acknowledged or lost
-abbrev pub IsEndingEvent : {Q S M P : Type 0} → Numbers → Event Q S M P → Reply Q → Type 0
-IsEndingEvent ends (Acked space now number limited) reply = ends space number ≡ true
-IsEndingEvent ends (Lost space number) (Ok answer) = ends space number ≡ true
+abbrev pub IsEndingEvent : {Q S M P : Type 0} → Endings → Event Q S M P → Reply Q → Type 0
+IsEndingEvent ends (Acked space now number limited) reply =
+    (ends.gone space number ≡ true) × (ends.acked space number ≡ true)
+IsEndingEvent ends (Lost space number) (Ok answer) = ends.gone space number ≡ true
 IsEndingEvent ends (Lost space number) (Err refusal) = Unit {0}
 IsEndingEvent ends (Send space now size eliciting largest queue frames) (Ok answer) = ⊥
 IsEndingEvent ends (Send space now size eliciting largest queue frames) (Err refusal) = Unit {0}
 IsEndingEvent ends (PollMtu now) reply = ⊥
 IsEndingEvent ends event reply = IsQuietEvent event
 
-pub ending_quiet : {Q S M P : Type 0} (ends : Numbers) (event : Event Q S M P) (reply : Reply Q)
+pub ending_quiet : {Q S M P : Type 0} (ends : Endings) (event : Event Q S M P) (reply : Reply Q)
     → IsEndingEvent ends event reply → IsQuietEvent event
 ending_quiet ends (Acked space now number limited) reply is = tt
 ending_quiet ends (Lost space number) reply is = tt
@@ -146,18 +149,35 @@ module _ {Q S M P : Type 0} (past : History Q S M P) where
   generation_before DropPrevious (Err refusal) calm = refl
   generation_before event reply calm = refl
 
-  ends_by : (ends : Numbers) (event : Event Q S M P) (reply : Reply Q) → IsEndingEvent ends event reply
-      → (space : SpaceId) (n : ℕ) → leaves (event, reply) space n ≡ true → ends space n ≡ true
+  ends_by : (ends : Endings) (event : Event Q S M P) (reply : Reply Q) → IsEndingEvent ends event reply
+      → (space : SpaceId) (n : ℕ) → leaves (event, reply) space n ≡ true → ends.gone space n ≡ true
   ends_by ends (Acked there now number limited) (Ok answer) is space n leave =
-      number_ends ends there space number n is leave
+      number_ends ends.gone there space number n is.0 leave
   ends_by ends (Acked there now number limited) (Err refusal) is space n leave = absurd (true≢false (sym leave))
-  ends_by ends (Lost there number) (Ok answer) is space n leave = number_ends ends there space number n is leave
+  ends_by ends (Lost there number) (Ok answer) is space n leave = number_ends ends.gone there space number n is leave
   ends_by ends (Lost there number) (Err refusal) is space n leave = absurd (true≢false (sym leave))
   ends_by ends (Send there now size eliciting largest queue frames) (Ok answer) is space n leave = absurd is
   ends_by ends (Send there now size eliciting largest queue frames) (Err refusal) is space n leave =
       absurd (true≢false (sym leave))
   ends_by ends (DiscardSpace there) reply is space n leave = absurd is
   ends_by ends event reply is space n leave = absurd (true≢false (sym leave))
+
+  carried_before : (ends : Endings) (event : Event Q S M P) (reply : Reply Q) → IsEndingEvent ends event reply
+      → (space : SpaceId) (n : ℕ) → largest_in space n ((event, reply) ∷ past) ≡ largest_in space n past
+  carried_before ends (Send there now size eliciting largest queue frames) (Ok answer) is space n = absurd is
+  carried_before ends (Send there now size eliciting largest queue frames) (Err refusal) is space n = refl
+  carried_before ends (PollMtu now) reply is space n = absurd is
+  carried_before ends event reply is space n = refl
+
+  top_before : (ends : Endings) (event : Event Q S M P) (reply : Reply Q) → IsEndingEvent ends event reply
+      → (space : SpaceId) → AcksBelow ends.acked space past ((event, reply) ∷ past) → KeepsLargest space past
+      → KeepsLargest space ((event, reply) ∷ past)
+  top_before ends (Received there now m eliciting) reply is space below keeps = absurd is
+  top_before ends (Acked there now number limited) (Ok answer) is space below keeps =
+      acked_top past space keeps there now number limited answer
+      (λ l here. below number l (rw (← one_space there space here) is.1))
+  top_before ends (Acked there now number limited) (Err refusal) is space below keeps = keeps
+  top_before ends event reply is space below keeps = keeps
 
   -- a received number came before, or is this one
   received_here : (space : SpaceId) (n : ℕ) (there : SpaceId) (now m : ℕ) (eliciting arm : Bool)
@@ -185,7 +205,40 @@ module _ {Q S M P : Type 0} where
   came_on turn past after goes space n is =
       rw (goes.came space) (member_with space n turn.came (came_in space past) is)
 
-  pub ending_none : (ends : Numbers) (past : History Q S M P) → GoesOn (ending ends) past past
+  -- one event, by what it changes
+  event_on : (turn : EndTurn) (past : History Q S M P) (event : Event Q S M P) (reply : Reply Q)
+      → (let after = (event, reply) ∷ past in
+      ((space : SpaceId) → came_in space after ≡ with_number space turn.came (came_in space past))
+      → ((space : SpaceId) (n : ℕ) → WasReceived space n after
+      → WasReceived space n past ⊎ (turn.heard ≡ Some (space, n)))
+      → bytes_received after ≤ turn.arrives + bytes_received past
+      → turn.leaves + bytes_transmitted past ≤ bytes_transmitted after
+      → ((space : SpaceId) → is_discarded space after ≡ (is_of space turn.discards || is_discarded space past))
+      → ((first : Bool) → is_validated first Current after ≡ (turn.validates || is_validated first Current past))
+      → ((space : SpaceId) → largest_came space after
+      ≡ with_largest space turn.heard turn.at (largest_came space past))
+      → ((gone : Numbers) → added turn.counts gone
+      + flight_in (λ space n. turn.ends space n || gone space n) past ≤ flight_in gone after)
+      → ((space : SpaceId) (n : ℕ) → largest_in space n after
+      ≡ with_carried space n turn.carries (largest_in space n past))
+      → ((space : SpaceId) → AcksBelow turn.acks space past after → KeepsLargest space past
+      → KeepsLargest space after)
+      → GoesOn turn past after)
+  event_on turn past event reply came heard arrived left discarded validated largest flight carried topped = record {
+    given = λ space n. given_on past space n event reply;
+    came = came;
+    heard = heard;
+    arrived = arrived;
+    left = left;
+    discarded = discarded;
+    validated = validated;
+    largest = largest;
+    flight = flight;
+    carried = carried;
+    topped = topped;
+  }
+
+  pub ending_none : (ends : Endings) (past : History Q S M P) → GoesOn (ending ends) past past
   ending_none ends past = record {
     given = λ space n is. is;
     came = λ space. refl;
@@ -195,150 +248,258 @@ module _ {Q S M P : Type 0} where
     discarded = λ space. refl;
     validated = λ first. refl;
     largest = λ space. refl;
-    flight = λ gone. zero_more _ _ (flight_less (λ space n. ends space n || gone space n) gone past
-        (λ space n is. or_gone (ends space n) (gone space n) is));
+    flight = λ gone. zero_more _ _ (flight_less (λ space n. ends.gone space n || gone space n) gone past
+        (λ space n is. or_gone (ends.gone space n) (gone space n) is));
+    carried = λ space n. refl;
+    topped = λ space below keeps. keeps;
   }
 
   pub quiet_none : (past : History Q S M P) → GoesOnQuietly past past
-  quiet_none = ending_none no_numbers
+  quiet_none = ending_none no_endings
 
-  pub ending_event : (ends : Numbers) (past : History Q S M P) (event : Event Q S M P) (reply : Reply Q)
+  pub ending_event : (ends : Endings) (past : History Q S M P) (event : Event Q S M P) (reply : Reply Q)
       → IsEndingEvent ends event reply → GoesOn (ending ends) past ((event, reply) ∷ past)
   ending_event ends past event reply is =
-      let calm = ending_quiet ends event reply is in record {
-        given = λ space n. given_on past space n event reply;
-        came = λ space. came_before past space event reply calm;
-        heard = λ space n was. inl (received_before past space n event reply calm was);
-        arrived = no_more (bytes_received ((event, reply) ∷ past)) (bytes_received past)
-            (ap (sum_by bytes_in) (datagrams_before past event reply calm));
-        left = no_less (bytes_transmitted past) (bytes_transmitted ((event, reply) ∷ past))
-            (sym (ap (sum_by bytes_out) (datagrams_before past event reply calm)));
-        discarded = λ space. discarded_before past space event reply calm;
-        validated = λ first. validated_before past first event reply calm;
-        largest = λ space. largest_before past space event reply calm;
-        flight = flight_event past event reply None ends (generation_before past event reply calm) (λ gone. omega arith)
-            (λ space n leave. inl (ends_by past ends event reply is space n leave));
-      }
+      let calm = ending_quiet ends event reply is in
+      event_on (ending ends) past event reply
+      (λ space. came_before past space event reply calm)
+      (λ space n was. inl (received_before past space n event reply calm was))
+      (no_more (bytes_received ((event, reply) ∷ past)) (bytes_received past)
+      (ap (sum_by bytes_in) (datagrams_before past event reply calm)))
+      (no_less (bytes_transmitted past) (bytes_transmitted ((event, reply) ∷ past))
+      (sym (ap (sum_by bytes_out) (datagrams_before past event reply calm))))
+      (λ space. discarded_before past space event reply calm)
+      (λ first. validated_before past first event reply calm)
+      (λ space. largest_before past space event reply calm)
+      (flight_event past event reply None ends.gone (generation_before past event reply calm) (λ gone. omega arith)
+      (λ space n leave. inl (ends_by past ends event reply is space n leave)))
+      (carried_before past ends event reply is) (top_before past ends event reply is)
 
-  -- what ends quietly ends within any numbers
-  pub quiet_ends : (ends : Numbers) (past after : History Q S M P) → GoesOnQuietly past after
-      → GoesOn (ending ends) past after
-  quiet_ends ends past after goes = record {
-    given = goes.given;
-    came = goes.came;
-    heard = goes.heard;
-    arrived = goes.arrived;
-    left = goes.left;
-    discarded = goes.discarded;
-    validated = goes.validated;
-    largest = goes.largest;
+-- ---- one turn after another
+
+-- two turns, one after the other, come to a third one: in bytes, and in the packets that end
+pub record Amounts (one two turn : EndTurn) : Type 0 where
+  pub arrives : two.arrives + one.arrives ≤ turn.arrives
+  pub leaves : turn.leaves ≤ two.leaves + one.leaves
+  pub ended : (space : SpaceId) (n : ℕ) (gone : Bool) → (one.ends space n || (two.ends space n || gone)) ≡ true
+      → (turn.ends space n || gone) ≡ true
+  pub first : (space : SpaceId) (n : ℕ) → one.acks space n ≡ true
+      → (turn.acks space n ≡ true) × (two.heard ≡ None)
+  pub second : (space : SpaceId) (n : ℕ) → two.acks space n ≡ true
+      → (turn.acks space n ≡ true) × (one.carries ≡ None)
+
+-- and in all else
+pub record Follows (one two turn : EndTurn) : Type 0 where
+  pub came : (space : SpaceId) (before : List ℕ) → with_number space two.came (with_number space one.came before)
+      ≡ with_number space turn.came before
+  pub heard : (space : SpaceId) (n : ℕ) → (one.heard ≡ Some (space, n)) ⊎ (two.heard ≡ Some (space, n))
+      → turn.heard ≡ Some (space, n)
+  pub discards : (space : SpaceId) (before : Bool) → (is_of space two.discards || (is_of space one.discards || before))
+      ≡ (is_of space turn.discards || before)
+  pub validates : (before : Bool) → (two.validates || (one.validates || before)) ≡ (turn.validates || before)
+  pub largest : (space : SpaceId) (before : Option (ℕ × ℕ))
+      → with_largest space two.heard two.at (with_largest space one.heard one.at before)
+      ≡ with_largest space turn.heard turn.at before
+  pub counted : (gone : Numbers) → added turn.counts gone
+      ≤ added two.counts gone + added one.counts (λ space n. two.ends space n || gone space n)
+  pub carried : (space : SpaceId) (n : ℕ) (before : Option ℕ)
+      → with_carried space n two.carries (with_carried space n one.carries before)
+      ≡ with_carried space n turn.carries before
+
+unheard_same : (space : SpaceId) (heard : Option (SpaceId × ℕ)) (now : ℕ) (before : Option (ℕ × ℕ)) → heard ≡ None
+    → with_largest space heard now before ≡ before
+unheard_same space heard now before none =
+    subst (λ (one : Option (SpaceId × ℕ)). with_largest space one now before ≡ before) (sym none) refl
+
+pub uncarried_same : (space : SpaceId) (n : ℕ) (carries : Option (SpaceId × ℕ × Option ℕ)) (before : Option ℕ)
+    → carries ≡ None → with_carried space n carries before ≡ before
+uncarried_same space n carries before none =
+    subst (λ (one : Option (SpaceId × ℕ × Option ℕ)). with_carried space n one before ≡ before) (sym none) refl
+
+module _ {Q S M P : Type 0} (one two turn : EndTurn) (past between after : History Q S M P)
+    (amounts : Amounts one two turn) (follows : Follows one two turn) (first : GoesOn one past between)
+    (second : GoesOn two between after) where
+  turns_heard : (space : SpaceId) (n : ℕ) → WasReceived space n after
+      → WasReceived space n past ⊎ (turn.heard ≡ Some (space, n))
+  turns_heard space n was = by (second.heard space n was)
+    where
+      before : WasReceived space n past ⊎ (one.heard ≡ Some (space, n))
+          → WasReceived space n past ⊎ (turn.heard ≡ Some (space, n))
+      before (inl came) = inl came
+      before (inr here) = inr (follows.heard space n (inl here))
+
+      by : WasReceived space n between ⊎ (two.heard ≡ Some (space, n))
+          → WasReceived space n past ⊎ (turn.heard ≡ Some (space, n))
+      by (inl came) = before (first.heard space n came)
+      by (inr here) = inr (follows.heard space n (inr here))
+
+  below_first : (space : SpaceId) → AcksBelow turn.acks space past after → AcksBelow one.acks space past between
+  below_first space below n l acked is =
+      let both = amounts.first space n acked in
+      subst (λ (largest : Option (ℕ × ℕ)). IsSomeAnd largest (λ it. l < it.0))
+      (second.largest space ∙ unheard_same space two.heard two.at (largest_came space between) both.1)
+      (below n l both.0 is)
+
+  below_second : (space : SpaceId) → AcksBelow turn.acks space past after → AcksBelow two.acks space between after
+  below_second space below n l acked is =
+      let both = amounts.second space n acked in
+      below n l both.0
+      (sym (first.carried space n ∙ uncarried_same space n one.carries (largest_in space n past) both.1) ∙ is)
+
+  turns_join : GoesOn turn past after
+  turns_join = record {
+    given = λ space n is. second.given space n (first.given space n is);
+    came = λ space. second.came space ∙ ap (with_number space two.came) (first.came space)
+        ∙ follows.came space (came_in space past);
+    heard = turns_heard;
+    arrived = (
+        let a = first.arrived in let b = second.arrived in let c = amounts.arrives in omega (arith, a, b, c));
+    left = (let a = first.left in let b = second.left in let c = amounts.leaves in omega (arith, a, b, c));
+    discarded = λ space. second.discarded space
+        ∙ ap (λ (before : Bool). is_of space two.discards || before) (first.discarded space)
+        ∙ follows.discards space (is_discarded space past);
+    validated = λ start. second.validated start
+        ∙ ap (λ (before : Bool). two.validates || before) (first.validated start)
+        ∙ follows.validates (is_validated start Current past);
+    largest = λ space. second.largest space ∙ ap (with_largest space two.heard two.at) (first.largest space)
+        ∙ follows.largest space (largest_came space past);
     flight = λ gone. (
-        let one = flight_less (λ space n. ends space n || gone space n) gone past
-        (λ space n is. or_gone (ends space n) (gone space n) is) in
-        let two = goes.flight gone in omega (arith, one, two));
+        let a = first.flight (λ space n. two.ends space n || gone space n) in
+        let b = second.flight gone in
+        let c = follows.counted gone in
+        let d = flight_less (λ space n. turn.ends space n || gone space n)
+        (λ space n. one.ends space n || (two.ends space n || gone space n)) past
+        (λ space n is. amounts.ended space n (gone space n) is) in
+        omega (arith, a, b, c, d));
+    carried = λ space n. second.carried space n
+        ∙ ap (with_carried space n two.carries) (first.carried space n)
+        ∙ follows.carried space n (largest_in space n past);
+    topped = λ space below keeps. second.topped space (below_second space below)
+        (first.topped space (below_first space below) keeps);
   }
 
-  -- ---- one event after another
+-- a turn with other bytes, and by which other packets end
+abbrev amounting : EndTurn → ℕ → ℕ → Endings → EndTurn
+amounting turn arrives leaves ends =
+    record turn { arrives = arrives; leaves = leaves; ends = ends.gone; acks = ends.acked }
 
+none_first : (a : ℕ) → a ≤ 0 + a
+none_first a = omega arith
+
+none_last : (a : ℕ) → a ≤ a + 0
+none_last a = omega arith
+
+first_none : (a : ℕ) → 0 + a ≤ a
+first_none a = omega arith
+
+plus_zero : (a : ℕ) → a ≡ a + 0
+plus_zero a = omega arith
+
+any_less : (a : ℕ) → 0 ≤ a + 0
+any_less a = omega arith
+
+pub no_acks : {A : Type 0} → false ≡ true → A
+no_acks never = absurd (true≢false (sym never))
+
+module _ {Q S M P : Type 0} (arrives leaves : ℕ) (ends : Endings) (turn : EndTurn) (more fewer : ℕ) (both : Endings)
+    (past between after : History Q S M P) where
+  -- first only bytes, and packets that end
+  plain_then : Amounts (amounting quiet arrives leaves ends) turn (amounting turn more fewer both)
+      → GoesOn (amounting quiet arrives leaves ends) past between → GoesOn turn between after
+      → GoesOn (amounting turn more fewer both) past after
+  plain_then amounts = turns_join (amounting quiet arrives leaves ends) turn (amounting turn more fewer both) past
+      between after amounts (record {
+        came = λ space before. refl;
+        heard = heard;
+        discards = λ space before. refl;
+        validates = λ before. refl;
+        largest = λ space before. refl;
+        counted = λ gone. none_last (added turn.counts gone);
+        carried = λ space n before. refl;
+      })
+    where
+      heard : (space : SpaceId) (n : ℕ) → (quiet.heard ≡ Some (space, n)) ⊎ (turn.heard ≡ Some (space, n))
+          → turn.heard ≡ Some (space, n)
+      heard space n (inl never) = absurd cc
+      heard space n (inr here) = here
+
+  -- then only those
+  then_plain : Amounts turn (amounting quiet arrives leaves ends) (amounting turn more fewer both)
+      → ((gone : Numbers) → added turn.counts gone
+      ≤ 0 + added turn.counts (λ space n. ends.gone space n || gone space n))
+      → GoesOn turn past between → GoesOn (amounting quiet arrives leaves ends) between after
+      → GoesOn (amounting turn more fewer both) past after
+  then_plain amounts counted = turns_join turn (amounting quiet arrives leaves ends) (amounting turn more fewer both)
+      past between after amounts (record {
+        came = λ space before. refl;
+        heard = heard;
+        discards = λ space before. refl;
+        validates = λ before. refl;
+        largest = λ space before. refl;
+        counted = counted;
+        carried = λ space n before. refl;
+      })
+    where
+      heard : (space : SpaceId) (n : ℕ) → (turn.heard ≡ Some (space, n)) ⊎ (quiet.heard ≡ Some (space, n))
+          → turn.heard ≡ Some (space, n)
+      heard space n (inl here) = here
+      heard space n (inr never) = absurd cc
+
+abbrev endings_of : EndTurn → Endings
+endings_of turn = record { gone = turn.ends; acked = turn.acks }
+
+module _ {Q S M P : Type 0} where
   module _ (turn : EndTurn) (past between after : History Q S M P) where
     pub quiet_then : GoesOnQuietly past between → GoesOn turn between after → GoesOn turn past after
-    quiet_then first second = record {
-      given = λ space n is. second.given space n (first.given space n is);
-      came = λ space. second.came space ∙ ap (with_number space turn.came) (first.came space);
-      heard = heard;
-      arrived = let one = first.arrived in let two = second.arrived in omega (arith, one, two);
-      left = let one = first.left in let two = second.left in omega (arith, one, two);
-      discarded = λ space. second.discarded space
-          ∙ ap (λ (before : Bool). is_of space turn.discards || before) (first.discarded space);
-      validated = λ start. second.validated start
-          ∙ ap (λ (before : Bool). turn.validates || before) (first.validated start);
-      largest = λ space. second.largest space
-          ∙ ap (with_largest space turn.heard turn.at) (first.largest space);
-      flight = λ gone. (
-          let one = first.flight (λ space n. turn.ends space n || gone space n) in
-          let two = second.flight gone in omega (arith, one, two));
-    }
-      where
-        before : (space : SpaceId) (n : ℕ) → WasReceived space n past ⊎ (quiet.heard ≡ Some (space, n))
-            → WasReceived space n past ⊎ (turn.heard ≡ Some (space, n))
-        before space n (inl was) = inl was
-        before space n (inr never) = absurd cc
-
-        by : (space : SpaceId) (n : ℕ) → WasReceived space n between ⊎ (turn.heard ≡ Some (space, n))
-            → WasReceived space n past ⊎ (turn.heard ≡ Some (space, n))
-        by space n (inl was) = before space n (first.heard space n was)
-        by space n (inr here) = inr here
-
-        heard : (space : SpaceId) (n : ℕ) → WasReceived space n after
-            → WasReceived space n past ⊎ (turn.heard ≡ Some (space, n))
-        heard space n was = by space n (second.heard space n was)
+    quiet_then = plain_then 0 0 no_endings turn turn.arrives turn.leaves (endings_of turn) past between after (record {
+      arrives = at_most _ _ (sym (plus_zero turn.arrives));
+      leaves = none_last turn.leaves;
+      ended = λ space n gone is. is;
+      first = λ space n acked. no_acks acked;
+      second = λ space n acked. (acked, refl);
+    })
 
     pub then_quiet : GoesOn turn past between → GoesOnQuietly between after → GoesOn turn past after
-    then_quiet first second = record {
-      given = λ space n is. second.given space n (first.given space n is);
-      came = λ space. second.came space ∙ first.came space;
-      heard = heard;
-      arrived = let one = first.arrived in let two = second.arrived in omega (arith, one, two);
-      left = let one = first.left in let two = second.left in omega (arith, one, two);
-      discarded = λ space. second.discarded space ∙ first.discarded space;
-      validated = λ start. second.validated start ∙ first.validated start;
-      largest = λ space. second.largest space ∙ first.largest space;
-      flight = λ gone. (let one = first.flight gone in let two = second.flight gone in omega (arith, one, two));
-    }
-      where
-        by : (space : SpaceId) (n : ℕ) → WasReceived space n between ⊎ (quiet.heard ≡ Some (space, n))
-            → WasReceived space n past ⊎ (turn.heard ≡ Some (space, n))
-        by space n (inl was) = first.heard space n was
-        by space n (inr never) = absurd cc
+    then_quiet = then_plain 0 0 no_endings turn turn.arrives turn.leaves (endings_of turn) past between after (record {
+      arrives = first_none turn.arrives;
+      leaves = none_first turn.leaves;
+      ended = λ space n gone is. is;
+      first = λ space n acked. (acked, refl);
+      second = λ space n acked. no_acks acked;
+    }) (λ gone. none_first (added turn.counts gone))
 
-        heard : (space : SpaceId) (n : ℕ) → WasReceived space n after
-            → WasReceived space n past ⊎ (turn.heard ≡ Some (space, n))
-        heard space n was = by space n (second.heard space n was)
+  -- what ends quietly ends within any numbers
+  pub quiet_ends : (ends : Endings) (past after : History Q S M P) → GoesOnQuietly past after
+      → GoesOn (ending ends) past after
+  quiet_ends ends past after = plain_then 0 0 no_endings quiet 0 0 ends past past after (record {
+    arrives = none_first 0;
+    leaves = none_first 0;
+    ended = λ space n gone is. or_gone (ends.gone space n) gone is;
+    first = λ space n acked. no_acks acked;
+    second = λ space n acked. no_acks acked;
+  }) (quiet_none past)
 
   -- what is transmitted may be left out
   pub left_quietly : (size : ℕ) (past after : History Q S M P) → GoesOn (leaving size) past after
       → GoesOnQuietly past after
-  left_quietly size past after goes = record {
-    given = goes.given;
-    came = goes.came;
-    heard = goes.heard;
-    arrived = goes.arrived;
-    left = let some = goes.left in omega (arith, some);
-    discarded = goes.discarded;
-    validated = goes.validated;
-    largest = goes.largest;
-    flight = goes.flight;
-  }
+  left_quietly size past after = plain_then 0 0 no_endings (leaving size) 0 0 no_endings past past after (record {
+    arrives = none_first 0;
+    leaves = any_less size;
+    ended = λ space n gone is. is;
+    first = λ space n acked. no_acks acked;
+    second = λ space n acked. no_acks acked;
+  }) (quiet_none past)
 
   -- these end first, then nothing else does
-  pub ending_then : (ends : Numbers) (past between after : History Q S M P) → GoesOn (ending ends) past between
+  pub ending_then : (ends : Endings) (past between after : History Q S M P) → GoesOn (ending ends) past between
       → GoesOn (ending ends) between after → GoesOn (ending ends) past after
-  ending_then ends past between after first second = record {
-    given = λ space n is. second.given space n (first.given space n is);
-    came = λ space. second.came space ∙ first.came space;
-    heard = heard;
-    arrived = let one = first.arrived in let two = second.arrived in omega (arith, one, two);
-    left = let one = first.left in let two = second.left in omega (arith, one, two);
-    discarded = λ space. second.discarded space ∙ first.discarded space;
-    validated = λ start. second.validated start ∙ first.validated start;
-    largest = λ space. second.largest space ∙ first.largest space;
-    flight = λ gone. (
-        let one = first.flight (λ space n. ends space n || gone space n) in
-        let two = second.flight gone in
-        let same = flight_less (λ space n. ends space n || gone space n)
-        (λ space n. ends space n || (ends space n || gone space n)) past
-        (λ space n is. gone_again (ends space n) (gone space n) is) in
-        omega (arith, one, two, same));
-  }
-    where
-      by : (space : SpaceId) (n : ℕ) → WasReceived space n between ⊎ (quiet.heard ≡ Some (space, n))
-          → WasReceived space n past ⊎ (quiet.heard ≡ Some (space, n))
-      by space n (inl was) = first.heard space n was
-      by space n (inr never) = inr never
-
-      heard : (space : SpaceId) (n : ℕ) → WasReceived space n after
-          → WasReceived space n past ⊎ (quiet.heard ≡ Some (space, n))
-      heard space n was = by space n (second.heard space n was)
+  ending_then ends past between after = plain_then 0 0 ends (ending ends) 0 0 ends past between after (record {
+    arrives = none_first 0;
+    leaves = none_first 0;
+    ended = λ space n gone is. gone_again (ends.gone space n) gone is;
+    first = λ space n acked. (acked, refl);
+    second = λ space n acked. (acked, refl);
+  })
 
   -- ---- a packet is sent
 
@@ -348,83 +509,72 @@ module _ {Q S M P : Type 0} where
       → HaveOneOutcome ((Send space now size eliciting largest queue frames, Ok (Sent n forgotten)) ∷ past)
       → ForgetsOldestNonEliciting past (Send space now size eliciting largest queue frames) (Ok (Sent n forgotten))
       → (same_space space space && n == n) ≡ true
-      → SendsNumber 0 (counted_if eliciting size) space n past
+      → SendsNumber 0 (counted_if eliciting size) space n largest past
       ((Send space now size eliciting largest queue frames, Ok (Sent n forgotten)) ∷ past)
   sends_event past space now size eliciting largest queue frames n forgotten increase once forgets goes =
       let event : Event Q S M P = Send space now size eliciting largest queue frames in
       let reply : Reply Q = Ok (Sent n forgotten) in record {
-        goes = record {
-          given = λ there m. given_on past there m event reply;
-          came = λ there. refl;
-          heard = λ there m was. inl was;
-          arrived = no_more (bytes_received past) (bytes_received past) refl;
-          left = no_less (bytes_transmitted past) (bytes_transmitted past) refl;
-          discarded = λ there. refl;
-          validated = λ first. refl;
-          largest = λ there. refl;
-          flight = flight_event past event reply (Some (space, n, counted_if eliciting size)) no_numbers refl
-              (λ gone. omega arith)
-              (λ there m leave. inr (sent_leaves past space now size eliciting largest queue frames n forgotten once
-              forgets
-              there m leave));
-        };
+        goes = event_on (packet_leaving 0 (counted_if eliciting size) space n largest) past event reply
+            (λ there. refl) (λ there m was. inl was) (no_more (bytes_received past) (bytes_received past) refl)
+            (no_less (bytes_transmitted past) (bytes_transmitted past) refl) (λ there. refl) (λ first. refl)
+            (λ there. refl)
+            (flight_event past event reply (Some (space, n, counted_if eliciting size)) no_numbers refl
+            (λ gone. omega arith)
+            (λ there m leave. inr (sent_leaves past space now size eliciting largest queue frames n forgotten once
+            forgets there m leave)))
+            (λ there m. refl) (λ there below keeps. keeps);
         unused = λ some. (let none = (increase space n goes).1 n (omega arith) in absurd (omega (arith, none, some)));
+        above = λ k some. (elim (cases_lt k n) [
+          | inl below ↦ below
+          | inr up ↦ (let none = (increase space n goes).1 k up in absurd (omega (arith, none, some)))
+        ]);
         used = now_some (goes_out (event, reply) space n) (times (is_given space n) past) goes;
         small = (increase space n goes).0;
       }
 
-  module _ (size counted : ℕ) (space : SpaceId) (n : ℕ) (past between after : History Q S M P) where
-    pub quiet_then_sends : GoesOnQuietly past between → SendsNumber size counted space n between after
-        → SendsNumber size counted space n past after
-    quiet_then_sends first second = record {
-      goes = quiet_then (packet_leaving size counted space n) past between after first second.goes;
-      unused = λ some. second.unused (first.given space n some);
-      used = second.used;
-      small = second.small;
-    }
+  module _ (size counted : ℕ) (space : SpaceId) (n : ℕ) (largest : Option ℕ) (past between after : History Q S M P)
+    where
+      pub quiet_then_sends : GoesOnQuietly past between → SendsNumber size counted space n largest between after
+          → SendsNumber size counted space n largest past after
+      quiet_then_sends first second = record {
+        goes = quiet_then (packet_leaving size counted space n largest) past between after first second.goes;
+        unused = λ some. second.unused (first.given space n some);
+        above = λ k some. second.above k (first.given space k some);
+        used = second.used;
+        small = second.small;
+      }
 
-    pub sends_then_quiet : SendsNumber size counted space n past between → GoesOnQuietly between after
-        → SendsNumber size counted space n past after
-    sends_then_quiet first second = record {
-      goes = then_quiet (packet_leaving size counted space n) past between after first.goes second;
-      unused = first.unused;
-      used = second.given space n first.used;
-      small = first.small;
-    }
+      pub sends_then_quiet : SendsNumber size counted space n largest past between → GoesOnQuietly between after
+          → SendsNumber size counted space n largest past after
+      sends_then_quiet first second = record {
+        goes = then_quiet (packet_leaving size counted space n largest) past between after first.goes second;
+        unused = first.unused;
+        above = first.above;
+        used = second.given space n first.used;
+        small = first.small;
+      }
 
-    -- its datagram was transmitted before
-    pub leaves_then_sends : GoesOn (leaving size) past between → SendsNumber 0 counted space n between after
-        → SendsNumber size counted space n past after
-    leaves_then_sends first second = record {
-      goes = record {
-        given = λ there m is. second.goes.given there m (first.given there m is);
-        came = λ there. second.goes.came there ∙ first.came there;
-        heard = heard;
-        arrived = let one = first.arrived in let two = second.goes.arrived in omega (arith, one, two);
-        left = let one = first.left in let two = second.goes.left in omega (arith, one, two);
-        discarded = λ there. second.goes.discarded there ∙ first.discarded there;
-        validated = λ start. second.goes.validated start ∙ first.validated start;
-        largest = λ there. second.goes.largest there ∙ first.largest there;
-        flight = λ gone. (
-            let one = first.flight gone in let two = second.goes.flight gone in omega (arith, one, two));
-      };
-      unused = λ some. second.unused (first.given space n some);
-      used = second.used;
-      small = second.small;
-    }
-      where
-        by_then : (there : SpaceId) (m : ℕ) → WasReceived there m between ⊎ (quiet.heard ≡ Some (there, m))
-            → WasReceived there m past ⊎ (quiet.heard ≡ Some (there, m))
-        by_then there m (inl was) = first.heard there m was
-        by_then there m (inr never) = inr never
-
-        heard : (there : SpaceId) (m : ℕ) → WasReceived there m after
-            → WasReceived there m past ⊎ (quiet.heard ≡ Some (there, m))
-        heard there m was = by_then there m (second.goes.heard there m was)
+      -- its datagram was transmitted before
+      pub leaves_then_sends : GoesOn (leaving size) past between → SendsNumber 0 counted space n largest between after
+          → SendsNumber size counted space n largest past after
+      leaves_then_sends first second = record {
+        goes = plain_then 0 size no_endings (packet_leaving 0 counted space n largest) 0 size no_endings past between
+            after (record {
+              arrives = none_first 0;
+              leaves = none_first size;
+              ended = λ there m gone is. is;
+              first = λ there m acked. no_acks acked;
+              second = λ there m acked. no_acks acked;
+            }) first second.goes;
+        unused = λ some. second.unused (first.given space n some);
+        above = λ k some. second.above k (first.given space k some);
+        used = second.used;
+        small = second.small;
+      }
 
   -- ---- a packet is received
 
-  module _ (now size : ℕ) (space : SpaceId) (n : ℕ) (reply : Result Bool SenderError) (ends : Numbers)
+  module _ (now size : ℕ) (space : SpaceId) (n : ℕ) (reply : Result Bool SenderError) (ends : Endings)
       (past between after : History Q S M P) where
     pub hears_then_quiet : HearsNumber now size space n reply ends past between → GoesOnQuietly between after
         → HearsNumber now size space n reply ends past after
@@ -434,70 +584,32 @@ module _ {Q S M P : Type 0} where
     }
 
     -- its ACK frame ends these
-    pub hears_then_ends : HearsNumber now size space n reply no_numbers past between → GoesOn (ending ends) between
-        after
-        → HearsNumber now size space n reply ends past after
+    pub hears_then_ends : HearsNumber now size space n reply no_endings past between
+        → GoesOn (ending ends) between after → HearsNumber now size space n reply ends past after
     hears_then_ends first second = record {
-      goes = record {
-        given = λ there m is. second.given there m (first.goes.given there m is);
-        came = λ there. second.came there ∙ first.goes.came there;
-        heard = heard_first;
-        arrived = let one = first.goes.arrived in let two = second.arrived in omega (arith, one, two);
-        left = let one = first.goes.left in let two = second.left in omega (arith, one, two);
-        discarded = λ there. second.discarded there ∙ first.goes.discarded there;
-        validated = λ start. second.validated start ∙ first.goes.validated start;
-        largest = λ there. second.largest there ∙ first.goes.largest there;
-        flight = λ gone. (
-            let one = first.goes.flight (λ there m. ends there m || gone there m) in
-            let two = second.flight gone in omega (arith, one, two));
-      };
+      goes = then_plain 0 0 ends (hearing now size space n reply no_endings) size 0 ends past between after (record {
+        arrives = first_none size;
+        leaves = none_first 0;
+        ended = λ there m gone is. is;
+        first = λ there m acked. no_acks acked;
+        second = λ there m acked. (acked, refl);
+      }) (λ gone. none_first 0) first.goes second;
       by = first.by;
     }
-      where
-        by_first : (there : SpaceId) (m : ℕ) → WasReceived there m between ⊎ (quiet.heard ≡ Some (there, m))
-            → WasReceived there m past ⊎ (new_by (space, n) reply ≡ Some (there, m))
-        by_first there m (inl was) = first.goes.heard there m was
-        by_first there m (inr never) = absurd cc
-
-        heard_first : (there : SpaceId) (m : ℕ) → WasReceived there m after
-            → WasReceived there m past ⊎ (new_by (space, n) reply ≡ Some (there, m))
-        heard_first there m was = by_first there m (second.heard there m was)
 
     -- its datagram was received before
     pub arrives_then_hears : GoesOn (arriving size) past between → HearsNumber now 0 space n reply ends between after
         → HearsNumber now size space n reply ends past after
     arrives_then_hears first second = record {
-      goes = record {
-        given = λ there m is. second.goes.given there m (first.given there m is);
-        came = λ there. second.goes.came there ∙ ap (with_number there (came_by (space, n) reply)) (first.came there);
-        heard = heard;
-        arrived = let one = first.arrived in let two = second.goes.arrived in omega (arith, one, two);
-        left = let one = first.left in let two = second.goes.left in omega (arith, one, two);
-        discarded = λ there. second.goes.discarded there ∙ first.discarded there;
-        validated = λ start. second.goes.validated start ∙ first.validated start;
-        largest = λ there. second.goes.largest there
-            ∙ ap (with_largest there (new_by (space, n) reply) now) (first.largest there);
-        flight = λ gone. (
-            let one = first.flight (λ there m. ends there m || gone there m) in
-            let two = second.goes.flight gone in omega (arith, one, two));
-      };
+      goes = plain_then size 0 no_endings (hearing now 0 space n reply ends) size 0 ends past between after (record {
+        arrives = first_none size;
+        leaves = none_first 0;
+        ended = λ there m gone is. is;
+        first = λ there m acked. no_acks acked;
+        second = λ there m acked. (acked, refl);
+      }) first second.goes;
       by = rw (first.came space, first.discarded space) at second.by;
     }
-      where
-        before : (there : SpaceId) (m : ℕ) → WasReceived there m past ⊎ (quiet.heard ≡ Some (there, m))
-            → WasReceived there m past ⊎ ((hearing now size space n reply ends).heard ≡ Some (there, m))
-        before there m (inl was) = inl was
-        before there m (inr never) = absurd cc
-
-        by_then : (there : SpaceId) (m : ℕ)
-            → WasReceived there m between ⊎ ((hearing now 0 space n reply ends).heard ≡ Some (there, m))
-            → WasReceived there m past ⊎ ((hearing now size space n reply ends).heard ≡ Some (there, m))
-        by_then there m (inl was) = before there m (first.heard there m was)
-        by_then there m (inr here) = inr here
-
-        heard : (there : SpaceId) (m : ℕ) → WasReceived there m after
-            → WasReceived there m past ⊎ ((hearing now size space n reply ends).heard ≡ Some (there, m))
-        heard there m was = by_then there m (second.goes.heard there m was)
 
 all_below : (n : ℕ) (came : List ℕ) → list_all (λ m. nat_lt m n) came ≡ true → is_member nat_eq came n ≡ true → ⊥
 all_below n [] all is = true≢false (sym is)
@@ -534,21 +646,16 @@ heard_refused Q false false new refusal is = absurd is
 
 module _ {Q S M P : Type 0} (past : History Q S M P) (space : SpaceId) (now n : ℕ) (eliciting : Bool) where
   pub hears_event : (arm : Bool) → DetectsDuplicates past (Received space now n eliciting) (Ok (New arm))
-      → HearsNumber now 0 space n (Ok true) no_numbers past ((Received space now n eliciting, Ok (New arm)) ∷ past)
+      → HearsNumber now 0 space n (Ok true) no_endings past ((Received space now n eliciting, Ok (New arm)) ∷ past)
   hears_event arm detects = record {
-    goes = record {
-      given = λ there m. given_on past there m (Received space now n eliciting) (Ok (New arm));
-      came = λ there. refl;
-      heard = λ there m was. received_here past there m space now n eliciting arm was;
-      arrived = no_more (bytes_received past) (bytes_received past) refl;
-      left = no_less (bytes_transmitted past) (bytes_transmitted past) refl;
-      discarded = λ there. refl;
-      validated = λ first. refl;
-      largest = λ there. refl;
-      flight = flight_event past (Received space now n eliciting) (Ok (New arm)) None no_numbers refl (λ gone. omega
-          arith)
-          (λ there m leave. absurd (true≢false (sym leave)));
-    };
+    goes = event_on (hearing now 0 space n (Ok true) no_endings) past (Received space now n eliciting) (Ok (New arm))
+        (λ there. refl) (λ there m was. received_here past there m space now n eliciting arm was)
+        (no_more (bytes_received past) (bytes_received past) refl)
+        (no_less (bytes_transmitted past) (bytes_transmitted past) refl) (λ there. refl) (λ first. refl)
+        (λ there. refl)
+        (flight_event past (Received space now n eliciting) (Ok (New arm)) None no_numbers refl (λ gone. omega arith)
+        (λ there m leave. no_acks leave))
+        (λ there m. refl) (λ there below keeps. received_top past there keeps space now n eliciting arm);
     by = heard_new Q (is_discarded space past) (nat_le number_limit n) (is_new (came_in space past) n) arm detects;
   }
 
@@ -562,45 +669,41 @@ module _ {Q S M P : Type 0} (past : History Q S M P) (space : SpaceId) (now n : 
   not_largest there (New arm) other = absurd (other arm refl)
   not_largest there answer other = refl
 
+  not_dropped : (there : SpaceId) (answer : Answer Q) → ((arm : Bool) → answer ≡ New arm → ⊥)
+      → KeepsLargest there past → KeepsLargest there ((Received space now n eliciting, Ok answer) ∷ past)
+  not_dropped there (New arm) other keeps = absurd (other arm refl)
+  not_dropped there answer other keeps = keeps
+
   -- a packet that is not new
   pub known_event : (answer : Answer Q) → ((arm : Bool) → answer ≡ New arm → ⊥)
       → DetectsDuplicates past (Received space now n eliciting) (Ok answer)
-      → HearsNumber now 0 space n (Ok false) no_numbers past ((Received space now n eliciting, Ok answer) ∷ past)
+      → HearsNumber now 0 space n (Ok false) no_endings past ((Received space now n eliciting, Ok answer) ∷ past)
   known_event answer other detects = record {
-    goes = record {
-      given = λ there k. given_on past there k (Received space now n eliciting) (Ok answer);
-      came = λ there. refl;
-      heard = λ there k was. inl (not_received there k answer other was);
-      arrived = no_more (bytes_received past) (bytes_received past) refl;
-      left = no_less (bytes_transmitted past) (bytes_transmitted past) refl;
-      discarded = λ there. refl;
-      validated = λ first. refl;
-      largest = λ there. not_largest there answer other;
-      flight = flight_event past (Received space now n eliciting) (Ok answer) None no_numbers refl (λ gone. omega arith)
-          (λ there m leave. absurd (true≢false (sym leave)));
-    };
+    goes = event_on (hearing now 0 space n (Ok false) no_endings) past (Received space now n eliciting) (Ok answer)
+        (λ there. refl) (λ there k was. inl (not_received there k answer other was))
+        (no_more (bytes_received past) (bytes_received past) refl)
+        (no_less (bytes_transmitted past) (bytes_transmitted past) refl) (λ there. refl) (λ first. refl)
+        (λ there. not_largest there answer other)
+        (flight_event past (Received space now n eliciting) (Ok answer) None no_numbers refl (λ gone. omega arith)
+        (λ there m leave. no_acks leave))
+        (λ there m. refl) (λ there below keeps. not_dropped there answer other keeps);
     by = heard_again Q (is_discarded space past) (nat_le number_limit n) (is_new (came_in space past) n) answer other
         detects;
   }
 
   -- a packet that is dropped
   pub dropped_event : (refusal : Refusal) → DetectsDuplicates past (Received space now n eliciting) (Err refusal)
-      → HearsNumber now 0 space n (Err (refused.Event refusal)) no_numbers past
+      → HearsNumber now 0 space n (Err (refused.Event refusal)) no_endings past
       ((Received space now n eliciting, Err refusal) ∷ past)
   dropped_event refusal detects = record {
-    goes = record {
-      given = λ there k. given_on past there k (Received space now n eliciting) (Err refusal);
-      came = λ there. refl;
-      heard = λ there k was. inl was;
-      arrived = no_more (bytes_received past) (bytes_received past) refl;
-      left = no_less (bytes_transmitted past) (bytes_transmitted past) refl;
-      discarded = λ there. refl;
-      validated = λ first. refl;
-      largest = λ there. refl;
-      flight = flight_event past (Received space now n eliciting) (Err refusal) None no_numbers refl (λ gone. omega
-          arith)
-          (λ there m leave. absurd (true≢false (sym leave)));
-    };
+    goes = event_on (hearing now 0 space n (Err (refused.Event refusal)) no_endings) past
+        (Received space now n eliciting) (Err refusal)
+        (λ there. refl) (λ there k was. inl was) (no_more (bytes_received past) (bytes_received past) refl)
+        (no_less (bytes_transmitted past) (bytes_transmitted past) refl) (λ there. refl) (λ first. refl)
+        (λ there. refl)
+        (flight_event past (Received space now n eliciting) (Err refusal) None no_numbers refl (λ gone. omega arith)
+        (λ there m leave. no_acks leave))
+        (λ there m. refl) (λ there below keeps. keeps);
     by = heard_refused Q (is_discarded space past) (nat_le number_limit n) (is_new (came_in space past) n) refusal
         detects;
   }
@@ -610,79 +713,52 @@ module _ {Q S M P : Type 0} (past : History Q S M P) (space : SpaceId) (now n : 
 module _ {Q S M P : Type 0} (past : History Q S M P) where
   pub arrives_event : (bytes : ℕ) (answer : Answer Q)
       → GoesOn (arriving bytes) past ((DatagramIn Current bytes, Ok answer) ∷ past)
-  arrives_event bytes answer = record {
-    given = λ space n. given_on past space n (DatagramIn Current bytes) (Ok answer);
-    came = λ space. refl;
-    heard = λ space n was. inl was;
-    arrived = at_most _ _ (sum_by-cons bytes_in (DatagramIn Current bytes, Ok answer) (datagrams_on Current past));
-    left = let more = sum_by-cons bytes_out (DatagramIn Current bytes, Ok answer) (datagrams_on Current past) in
-        at_most _ _ (sym more);
-    discarded = λ space. refl;
-    validated = λ first. refl;
-    largest = λ space. refl;
-    flight = flight_event past (DatagramIn Current bytes) (Ok answer) None no_numbers refl (λ gone. omega arith)
-        (λ there m leave. absurd (true≢false (sym leave)));
-  }
+  arrives_event bytes answer = event_on (arriving bytes) past (DatagramIn Current bytes) (Ok answer) (λ space. refl)
+      (λ space n was. inl was)
+      (at_most _ _ (sum_by-cons bytes_in (DatagramIn Current bytes, Ok answer) (datagrams_on Current past)))
+      (at_most _ _ (sym (sum_by-cons bytes_out (DatagramIn Current bytes, Ok answer) (datagrams_on Current past))))
+      (λ space. refl) (λ first. refl) (λ space. refl)
+      (flight_event past (DatagramIn Current bytes) (Ok answer) None no_numbers refl (λ gone. omega arith)
+      (λ there m leave. no_acks leave))
+      (λ space n. refl) (λ space below keeps. keeps)
 
   pub leaves_event : (now bytes : ℕ) (checked : Bool)
       → GoesOn (leaving bytes) past ((Transmit now bytes checked, Ok Transmitted) ∷ past)
-  leaves_event now bytes checked = record {
-    given = λ space n. given_on past space n (Transmit now bytes checked) (Ok Transmitted);
-    came = λ space. refl;
-    heard = λ space n was. inl was;
-    arrived = at_most _ _ (sum_by-cons bytes_in (Transmit now bytes checked, Ok Transmitted)
-        (datagrams_on Current past));
-    left = let more = sum_by-cons bytes_out (Transmit now bytes checked, Ok Transmitted) (datagrams_on Current past) in
-        at_most _ _ (sym more);
-    discarded = λ space. refl;
-    validated = λ first. refl;
-    largest = λ space. refl;
-    flight = flight_event past (Transmit now bytes checked) (Ok Transmitted) None no_numbers refl (λ gone. omega arith)
-        (λ there m leave. absurd (true≢false (sym leave)));
-  }
+  leaves_event now bytes checked = event_on (leaving bytes) past (Transmit now bytes checked) (Ok Transmitted)
+      (λ space. refl) (λ space n was. inl was)
+      (at_most _ _ (sum_by-cons bytes_in (Transmit now bytes checked, Ok Transmitted) (datagrams_on Current past)))
+      (at_most _ _ (sym (sum_by-cons bytes_out (Transmit now bytes checked, Ok Transmitted)
+      (datagrams_on Current past))))
+      (λ space. refl) (λ first. refl) (λ space. refl)
+      (flight_event past (Transmit now bytes checked) (Ok Transmitted) None no_numbers refl (λ gone. omega arith)
+      (λ there m leave. no_acks leave))
+      (λ space n. refl) (λ space below keeps. keeps)
 
   pub delayed_event : (now bytes until : ℕ) (checked : Bool)
       → GoesOnQuietly past ((Transmit now bytes checked, Ok (Delayed until)) ∷ past)
-  delayed_event now bytes until checked = record {
-    given = λ space n. given_on past space n (Transmit now bytes checked) (Ok (Delayed until));
-    came = λ space. refl;
-    heard = λ space n was. inl was;
-    arrived = no_more (bytes_received past) (bytes_received past) refl;
-    left = no_less (bytes_transmitted past) (bytes_transmitted past) refl;
-    discarded = λ space. refl;
-    validated = λ first. refl;
-    largest = λ space. refl;
-    flight = flight_event past (Transmit now bytes checked) (Ok (Delayed until)) None no_numbers refl (λ gone. omega
-        arith)
-        (λ there m leave. absurd (true≢false (sym leave)));
-  }
+  delayed_event now bytes until checked = event_on quiet past (Transmit now bytes checked) (Ok (Delayed until))
+      (λ space. refl) (λ space n was. inl was) (no_more (bytes_received past) (bytes_received past) refl)
+      (no_less (bytes_transmitted past) (bytes_transmitted past) refl)
+      (λ space. refl) (λ first. refl) (λ space. refl)
+      (flight_event past (Transmit now bytes checked) (Ok (Delayed until)) None no_numbers refl (λ gone. omega arith)
+      (λ there m leave. no_acks leave))
+      (λ space n. refl) (λ space below keeps. keeps)
 
   pub discards_event : (space : SpaceId) (answer : Answer Q)
       → GoesOn (discarding space) past ((DiscardSpace space, Ok answer) ∷ past)
-  discards_event space answer = record {
-    given = λ there n. given_on past there n (DiscardSpace space) (Ok answer);
-    came = λ there. refl;
-    heard = λ there n was. inl was;
-    arrived = no_more (bytes_received past) (bytes_received past) refl;
-    left = no_less (bytes_transmitted past) (bytes_transmitted past) refl;
-    discarded = λ there. refl;
-    validated = λ first. refl;
-    largest = λ there. refl;
-    flight = flight_event past (DiscardSpace space) (Ok answer) None (λ there n. same_space space there) refl (λ gone.
-        omega arith)
-        (λ there m leave. inl leave);
-  }
+  discards_event space answer = event_on (discarding space) past (DiscardSpace space) (Ok answer) (λ there. refl)
+      (λ there n was. inl was) (no_more (bytes_received past) (bytes_received past) refl)
+      (no_less (bytes_transmitted past) (bytes_transmitted past) refl)
+      (λ there. refl) (λ first. refl) (λ there. refl)
+      (flight_event past (DiscardSpace space) (Ok answer) None (λ there n. same_space space there) refl
+      (λ gone. omega arith) (λ there m leave. inl leave))
+      (λ there n. refl) (λ there below keeps. keeps)
 
   pub validates_event : (answer : Answer Q) → GoesOn validating past ((Validated Current, Ok answer) ∷ past)
-  validates_event answer = record {
-    given = λ there n. given_on past there n (Validated Current) (Ok answer);
-    came = λ there. refl;
-    heard = λ there n was. inl was;
-    arrived = no_more (bytes_received past) (bytes_received past) refl;
-    left = no_less (bytes_transmitted past) (bytes_transmitted past) refl;
-    discarded = λ there. refl;
-    validated = λ first. refl;
-    largest = λ space. refl;
-    flight = flight_event past (Validated Current) (Ok answer) None no_numbers refl (λ gone. omega arith)
-        (λ there m leave. absurd (true≢false (sym leave)));
-  }
+  validates_event answer = event_on validating past (Validated Current) (Ok answer) (λ space. refl)
+      (λ space n was. inl was) (no_more (bytes_received past) (bytes_received past) refl)
+      (no_less (bytes_transmitted past) (bytes_transmitted past) refl)
+      (λ space. refl) (λ first. refl) (λ space. refl)
+      (flight_event past (Validated Current) (Ok answer) None no_numbers refl (λ gone. omega arith)
+      (λ there m leave. no_acks leave))
+      (λ space n. refl) (λ space below keeps. keeps)

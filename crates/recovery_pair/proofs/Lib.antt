@@ -11,9 +11,11 @@ pub mod PairRows
 pub mod PermitLaws
 pub mod QueueLaws
 pub mod QuietLaws
+pub mod RisingLaws
 pub mod RunLaws
 pub mod StepTies
 pub mod TieLaws
 pub mod TimedLaws
+pub mod TopLaws
 pub mod TurnLaws
 pub mod WaitLaws

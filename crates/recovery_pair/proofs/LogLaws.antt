@@ -1,10 +1,12 @@
 -- What a step adds to the log, and what it adds to the past of an end, agree.
-use Rattle.std.proofs.Common.{◌≡◌, ℕ, ◌+◌, ◌≤◌, ◌||◌, Bool, true, List, ◌∷◌, Option, None, Result, Ok, refl, sym, ap, subst, ◌∙◌, arith}
+use Rattle.std.proofs.Common.{◌≡◌, ℕ, ◌+◌, ◌≤◌, ◌||◌, Bool, true, false, true≢false, List, ◌∷◌, Option, None, Some, Result, Ok, refl, sym, ap, subst, ◌∙◌, arith}
 use Rattle.std.specs.Prelude.{if◌then◌else◌}
 use Rattle.std.specs.Global.{Vec}
 use Rattle.recovery_base.specs.declared.below.SpaceId.{SpaceId}
+use Rattle.recovery_base.specs.Spaces.{same_space}
 use Rattle.recovery_history.specs.History.{History}
 use Rattle.recovery_sender.specs.declared.sender.SenderError.{SenderError}
+use Rattle.recovery_pair.specs.declared.steps.AckOutcome.{AckOutcome}
 use Rattle.recovery_pair.specs.declared.steps.End.{End}
 use Rattle.recovery_pair.specs.declared.steps.End.TheVariants.{Client, Server}
 use Rattle.recovery_pair.specs.declared.steps.Fate.{Fate}
@@ -14,10 +16,11 @@ use Rattle.recovery_pair.specs.declared.steps.LocalStep.TheVariants.{AddressVali
 use Rattle.recovery_pair.specs.declared.steps.PairAnswer.{PairAnswer}
 use Rattle.recovery_pair.specs.declared.steps.PairAnswer.TheVariants.{Arrived, Done, Sent}
 use Rattle.recovery_pair.specs.declared.steps.PairStep.{PairStep}
+use Rattle.recovery_pair.specs.declared.steps.SentAck.{SentAck}
 use Rattle.recovery_pair.specs.declared.steps.PairStep.TheVariants.{Arrive, Local, Send}
 use Rattle.recovery_pair.specs.Logs.{PairEvent, PairLog, bytes_arrived, bytes_sent, has_validated, numbers_at, other_end, was_discarded}
-use Rattle.recovery_pair.specs.Flights.{Numbers, counted_if, ends_by_fate, flight_of}
-use Rattle.recovery_pair.specs.Pasts.{GoesOn, EndTurn, added, hearing, is_of, new_by, packet_leaving, quiet, with_largest, with_number}
+use Rattle.recovery_pair.specs.Flights.{Numbers, counted_if, ends_by_timer, flight_of, no_numbers as none_gone}
+use Rattle.recovery_pair.specs.Pasts.{GoesOn, EndTurn, added, ending, endings_by_fate, hearing, is_of, losing, new_by, packet_leaving, quiet, with_largest, with_number}
 use Rattle.recovery_pair.specs.Promises.Delays.{largest_new}
 use Rattle.recovery_pair.specs.Tied.{IsLogged, validated_first}
 use Rattle.recovery_pair.specs.Turns.{local_turn, reply_of}
@@ -70,58 +73,54 @@ none_counted rest = omega arith
 -- ---- a packet is sent
 
 module _ (log : PairLog) (there : SpaceId) (now size n : ℕ) (items : Vec ℕ) (eliciting : Bool) (window : Option ℕ)
-    (delay : ℕ) where
+    (delay : SentAck) where
   counted_here : (is_gone elicits : Bool) (rest : ℕ)
       → (if is_gone then 0 else counted_if elicits size) + rest ≤ (if is_gone then 0 else counted_if elicits size) +
       rest
   counted_here is_gone elicits rest = omega arith
 
-  pub sending_adds : (end : End) → Adds (packet_leaving size (counted_if eliciting size) there n) end (
-    Send end there
-        now size,
-    Ok (Sent n items eliciting window delay),
-  ) log
-  sending_adds Client = record {
+  abbrev departure : End → PairEvent
+  departure end = (Send end there now size, Ok (Sent n items eliciting window delay))
+
+  sent_more : (end : End) → bytes_sent end (departure end ∷ log) ≡ size + bytes_sent end log
+  sent_more Client = refl
+  sent_more Server = refl
+
+  sent_same : (end : End) → bytes_sent (other_end end) (departure end ∷ log) ≡ bytes_sent (other_end end) log
+  sent_same Client = refl
+  sent_same Server = refl
+
+  flight_more : (end : End) (gone : Numbers) → all_flight end gone (departure end ∷ log)
+      ≤ (if gone there n then 0 else counted_if eliciting size) + all_flight end gone log
+  flight_more Client gone = counted_here (gone there n) eliciting (all_flight Client gone log)
+  flight_more Server gone = counted_here (gone there n) eliciting (all_flight Server gone log)
+
+  flight_same : (end : End) (gone : Numbers) → all_flight (other_end end) gone (departure end ∷ log)
+      ≤ 0 + all_flight (other_end end) gone log
+  flight_same Client gone = none_counted (all_flight Server gone log)
+  flight_same Server gone = none_counted (all_flight Client gone log)
+
+  pub sending_adds : (end : End) (largest : Option ℕ)
+      → Adds (packet_leaving size (counted_if eliciting size) there n largest) end (departure end) log
+  sending_adds end largest = record {
     came = λ space. refl;
     discarded = λ space. refl;
     validated = λ first. refl;
-    arrived = no_less (bytes_arrived Client log) (bytes_arrived Client log) refl;
-    left = at_most (size + bytes_sent Client log) (size + bytes_sent Client log) refl;
+    arrived = no_less (bytes_arrived end log) (bytes_arrived end log) refl;
+    left = at_most _ _ (sent_more end);
     largest = λ space. refl;
-    flight = λ gone. counted_here (gone there n) eliciting (all_flight Client gone log);
-  }
-  sending_adds Server = record {
-    came = λ space. refl;
-    discarded = λ space. refl;
-    validated = λ first. refl;
-    arrived = no_less (bytes_arrived Server log) (bytes_arrived Server log) refl;
-    left = at_most (size + bytes_sent Server log) (size + bytes_sent Server log) refl;
-    largest = λ space. refl;
-    flight = λ gone. counted_here (gone there n) eliciting (all_flight Server gone log);
+    flight = flight_more end;
   }
 
-  pub sending_adds_not : (end : End) → Adds quiet (other_end end) (
-    Send end there now size,
-    Ok (Sent n items eliciting
-        window delay),
-  ) log
-  sending_adds_not Client = record {
+  pub sending_adds_not : (end : End) → Adds quiet (other_end end) (departure end) log
+  sending_adds_not end = record {
     came = λ space. refl;
     discarded = λ space. refl;
     validated = λ first. refl;
-    arrived = no_less (bytes_arrived Server log) (bytes_arrived Server log) refl;
-    left = no_more (bytes_sent Server log) (bytes_sent Server log) refl;
+    arrived = no_less (bytes_arrived (other_end end) log) (bytes_arrived (other_end end) log) refl;
+    left = no_more _ _ (sent_same end);
     largest = λ space. refl;
-    flight = λ gone. none_counted (all_flight Server gone log);
-  }
-  sending_adds_not Server = record {
-    came = λ space. refl;
-    discarded = λ space. refl;
-    validated = λ first. refl;
-    arrived = no_less (bytes_arrived Client log) (bytes_arrived Client log) refl;
-    left = no_more (bytes_sent Client log) (bytes_sent Client log) refl;
-    largest = λ space. refl;
-    flight = λ gone. none_counted (all_flight Client gone log);
+    flight = flight_same end;
   }
 
 -- ---- a packet arrives
@@ -130,24 +129,30 @@ module _ (log : PairLog) (at now : ℕ) (there : SpaceId) (n size : ℕ) where
   abbrev arrival : End → Fate → PairEvent
   arrival to fate = (Arrive at now, Ok (Arrived to there n size fate))
 
-  came_here : (to : End) (fate : Fate) (space : SpaceId) → numbers_at to space (arrival to fate ∷ log)
-      ≡ with_number space (hearing now size there n (reply_of fate) (ends_by_fate there fate)).came (numbers_at to space
-      log)
-  came_here Client (New items acked) space = refl
-  came_here Client Duplicate space = refl
-  came_here Client (Dropped refusal) space = refl
-  came_here Server (New items acked) space = refl
-  came_here Server Duplicate space = refl
-  came_here Server (Dropped refusal) space = refl
+  -- what computes for each endpoint and fate
+  each_arrival : (Holds : End → Fate → Type 0)
+      → ((items : Vec ℕ) (acked : AckOutcome) → Holds Client (New items acked) × Holds Server (New items acked))
+      → Holds Client Duplicate × Holds Server Duplicate
+      → ((refusal : SenderError) → Holds Client (Dropped refusal) × Holds Server (Dropped refusal))
+      → (to : End) (fate : Fate) → Holds to fate
+  each_arrival Holds new old dropped Client (New items acked) = (new items acked).0
+  each_arrival Holds new old dropped Client Duplicate = old.0
+  each_arrival Holds new old dropped Client (Dropped refusal) = (dropped refusal).0
+  each_arrival Holds new old dropped Server (New items acked) = (new items acked).1
+  each_arrival Holds new old dropped Server Duplicate = old.1
+  each_arrival Holds new old dropped Server (Dropped refusal) = (dropped refusal).1
 
-  came_there : (to : End) (fate : Fate) (space : SpaceId)
+  came_here : (space : SpaceId) (to : End) (fate : Fate) → numbers_at to space (arrival to fate ∷ log)
+      ≡ with_number space (hearing now size there n (reply_of fate) (endings_by_fate there fate)).came
+      (numbers_at to space log)
+  came_here space = each_arrival (λ to fate. numbers_at to space (arrival to fate ∷ log)
+      ≡ with_number space (hearing now size there n (reply_of fate) (endings_by_fate there fate)).came
+      (numbers_at to space log)) (λ items acked. (refl, refl)) (refl, refl) (λ refusal. (refl, refl))
+
+  came_there : (space : SpaceId) (to : End) (fate : Fate)
       → numbers_at (other_end to) space (arrival to fate ∷ log) ≡ numbers_at (other_end to) space log
-  came_there Client (New items acked) space = refl
-  came_there Client Duplicate space = refl
-  came_there Client (Dropped refusal) space = refl
-  came_there Server (New items acked) space = refl
-  came_there Server Duplicate space = refl
-  came_there Server (Dropped refusal) space = refl
+  came_there space = each_arrival (λ to fate. numbers_at (other_end to) space (arrival to fate ∷ log)
+      ≡ numbers_at (other_end to) space log) (λ items acked. (refl, refl)) (refl, refl) (λ refusal. (refl, refl))
 
   arrived_here : (to : End) (fate : Fate) → size + bytes_arrived to log ≤ bytes_arrived to (arrival to fate ∷ log)
   arrived_here Client fate = at_most (size + bytes_arrived Client log) (size + bytes_arrived Client log) refl
@@ -158,59 +163,49 @@ module _ (log : PairLog) (at now : ℕ) (there : SpaceId) (n size : ℕ) where
   arrived_there Client fate = no_less (bytes_arrived Server log) (bytes_arrived Server log) refl
   arrived_there Server fate = no_less (bytes_arrived Client log) (bytes_arrived Client log) refl
 
-  largest_here : (to : End) (fate : Fate) (space : SpaceId) → largest_new to space (arrival to fate ∷ log)
+  largest_here : (space : SpaceId) (to : End) (fate : Fate) → largest_new to space (arrival to fate ∷ log)
       ≡ with_largest space (new_by (there, n) (reply_of fate)) now (largest_new to space log)
-  largest_here Client (New items acked) space = refl
-  largest_here Client Duplicate space = refl
-  largest_here Client (Dropped refusal) space = refl
-  largest_here Server (New items acked) space = refl
-  largest_here Server Duplicate space = refl
-  largest_here Server (Dropped refusal) space = refl
+  largest_here space = each_arrival (λ to fate. largest_new to space (arrival to fate ∷ log)
+      ≡ with_largest space (new_by (there, n) (reply_of fate)) now (largest_new to space log))
+      (λ items acked. (refl, refl)) (refl, refl) (λ refusal. (refl, refl))
 
-  largest_there : (to : End) (fate : Fate) (space : SpaceId)
+  largest_there : (space : SpaceId) (to : End) (fate : Fate)
       → largest_new (other_end to) space (arrival to fate ∷ log) ≡ largest_new (other_end to) space log
-  largest_there Client (New items acked) space = refl
-  largest_there Client Duplicate space = refl
-  largest_there Client (Dropped refusal) space = refl
-  largest_there Server (New items acked) space = refl
-  largest_there Server Duplicate space = refl
-  largest_there Server (Dropped refusal) space = refl
+  largest_there space = each_arrival (λ to fate. largest_new (other_end to) space (arrival to fate ∷ log)
+      ≡ largest_new (other_end to) space log) (λ items acked. (refl, refl)) (refl, refl) (λ refusal. (refl, refl))
 
-  ended_here : (to : End) (fate : Fate) (gone : Numbers) → all_flight to gone (arrival to fate ∷ log)
-      ≤ 0 + all_flight to (λ space m. ends_by_fate there fate space m || gone space m) log
-  ended_here Client fate gone = no_more _ (all_flight Client (λ space m. ends_by_fate there fate space m || gone space
-      m)
-      log) refl
-  ended_here Server fate gone = no_more _ (all_flight Server (λ space m. ends_by_fate there fate space m || gone space
-      m)
-      log) refl
+  ended_here : (gone : Numbers) (to : End) (fate : Fate) → all_flight to gone (arrival to fate ∷ log)
+      ≡ all_flight to (λ space m. (endings_by_fate there fate).gone space m || gone space m) log
+  ended_here gone = each_arrival (λ to fate. all_flight to gone (arrival to fate ∷ log)
+      ≡ all_flight to (λ space m. (endings_by_fate there fate).gone space m || gone space m) log)
+      (λ items acked. (refl, refl)) (refl, refl) (λ refusal. (refl, refl))
 
-  ended_there : (to : End) (fate : Fate) (gone : Numbers) → all_flight (other_end to) gone (arrival to fate ∷ log)
-      ≤ 0 + all_flight (other_end to) gone log
-  ended_there Client fate gone = no_more _ (all_flight Server gone log) refl
-  ended_there Server fate gone = no_more _ (all_flight Client gone log) refl
+  ended_there : (gone : Numbers) (to : End) (fate : Fate) → all_flight (other_end to) gone (arrival to fate ∷ log)
+      ≡ all_flight (other_end to) gone log
+  ended_there gone = each_arrival (λ to fate. all_flight (other_end to) gone (arrival to fate ∷ log)
+      ≡ all_flight (other_end to) gone log) (λ items acked. (refl, refl)) (refl, refl) (λ refusal. (refl, refl))
 
   pub arriving_adds : (to : End) (fate : Fate)
-      → Adds (hearing now size there n (reply_of fate) (ends_by_fate there fate)) to (arrival to fate) log
+      → Adds (hearing now size there n (reply_of fate) (endings_by_fate there fate)) to (arrival to fate) log
   arriving_adds to fate = record {
-    came = came_here to fate;
+    came = λ space. came_here space to fate;
     discarded = λ space. refl;
     validated = λ first. refl;
     arrived = arrived_here to fate;
     left = no_more (bytes_sent to log) (bytes_sent to log) refl;
-    largest = largest_here to fate;
-    flight = ended_here to fate;
+    largest = λ space. largest_here space to fate;
+    flight = λ gone. no_more _ _ (ended_here gone to fate);
   }
 
   pub arriving_adds_not : (to : End) (fate : Fate) → Adds quiet (other_end to) (arrival to fate) log
   arriving_adds_not to fate = record {
-    came = came_there to fate;
+    came = λ space. came_there space to fate;
     discarded = λ space. refl;
     validated = λ first. refl;
     arrived = arrived_there to fate;
     left = no_more (bytes_sent (other_end to) log) (bytes_sent (other_end to) log) refl;
-    largest = largest_there to fate;
-    flight = ended_there to fate;
+    largest = λ space. largest_there space to fate;
+    flight = λ gone. no_more _ _ (ended_there gone to fate);
   }
 
 -- ---- steps that report no packet
@@ -343,41 +338,35 @@ module _ (log : PairLog) where
     pub arrives : turn.arrives ≡ 0
     pub leaves : turn.leaves ≡ 0
     pub counts : turn.counts ≡ None
+    pub carries : turn.carries ≡ None
+    pub unacked : (space : SpaceId) (n : ℕ) → turn.acks space n ≡ true → ⊥
+
+  -- it discards a space, validates an address, or has packets declared lost
+  abbrev changing : Option SpaceId → Bool → Numbers → EndTurn
+  changing discards validates gone = record (ending (losing gone)) { discards = discards; validates = validates }
+
+  moves : (discards : Option SpaceId) (validates : Bool) (gone : Numbers)
+      → MovesNone (changing discards validates gone)
+  moves discards validates gone = record {
+    came = refl;
+    heard = refl;
+    arrives = refl;
+    leaves = refl;
+    counts = refl;
+    carries = refl;
+    unacked = λ space n never. true≢false (sym never);
+  }
+
+  pub quiet_moves : MovesNone quiet
+  quiet_moves = moves None false none_gone
 
   pub local_moves : (step : LocalStep) (answer : Result PairAnswer SenderError) → MovesNone (local_turn step answer)
-  local_moves (Discard there now) (Ok Done) = record {
-    came = refl;
-    heard = refl;
-    arrives = refl;
-    leaves = refl;
-    counts
-        = refl;
-  }
-  local_moves (Discard there now) answer = record {
-    came = refl;
-    heard = refl;
-    arrives = refl;
-    leaves = refl;
-    counts =
-        refl;
-  }
-  local_moves AddressValidated (Ok Done) = record {
-    came = refl;
-    heard = refl;
-    arrives = refl;
-    leaves = refl;
-    counts =
-        refl;
-  }
-  local_moves AddressValidated answer = record {
-    came = refl;
-    heard = refl;
-    arrives = refl;
-    leaves = refl;
-    counts =
-        refl;
-  }
-  local_moves step answer = record { came = refl; heard = refl; arrives = refl; leaves = refl; counts = refl }
+  local_moves (Discard there now) (Ok Done) = moves (Some there) false (λ space n. same_space there space)
+  local_moves (Discard there now) answer = quiet_moves
+  local_moves AddressValidated (Ok Done) = moves None true none_gone
+  local_moves AddressValidated answer = quiet_moves
+  local_moves (Expire now) answer = moves None false (ends_by_timer answer)
+  local_moves step answer = quiet_moves
 
   added_none : (counts : Option (SpaceId × ℕ × ℕ)) (gone : Numbers) → counts ≡ None → added counts gone ≡ 0
   added_none counts gone none = subst (λ (one : Option (SpaceId × ℕ × ℕ)). added one gone ≡ 0) (sym none) refl

@@ -16,6 +16,7 @@ use Rattle.recovery_pair.specs.declared.steps.End.{End}
 use Rattle.recovery_pair.specs.declared.steps.End.TheVariants.{Client, Server}
 use Rattle.recovery_pair.specs.Pasts.{GoesOnQuietly, quiet}
 use Rattle.recovery_pair.specs.Tied.{Flows, IsLogged, IsTied, validated_first}
+use Rattle.recovery_pair.proofs.RisingLaws.{rises_new}
 use Rattle.recovery_pair.proofs.QuietLaws.{call_quietly}
 
 none_received : {Q S M P : Type 0} (after : History Q S M P) → GoesOnQuietly [] after → (space : SpaceId) (n : ℕ)
@@ -108,6 +109,8 @@ module _ {F Q R C K S M P : Type 0} {f : _} {c : _} {q : _} {m : _} {r : _} wher
               listed = refl;
               wired = tt;
               within = λ one. omega arith;
+              own_rise = rises_new Client own.past peer.past own.goes;
+              peer_rise = rises_new Server peer.past own.past peer.goes;
             };
         own_waits = λ measure space. omega arith;
         peer_waits = λ measure space. omega arith;

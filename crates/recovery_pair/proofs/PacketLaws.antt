@@ -22,8 +22,8 @@ use Rattle.recovery_sender.specs.declared.sender.SenderError.{SenderError}
 use Rattle.recovery_sender.specs.declared.sender.SenderError.TheVariants as refused
 use Rattle.recovery_sender.specs.declared.sender.packets.Transmission.{Transmission}
 use Rattle.recovery_sender.specs.declared.sender.packets.Transmission.TheVariants as transmission
-use Rattle.recovery_pair.specs.Flights.{counted_if, no_numbers}
-use Rattle.recovery_pair.specs.Pasts.{Continues, EndTurn, GoesOn, GoesOnQuietly, HearsNumber, SendsNumber, arm_told, heard_of, leaving, quiet}
+use Rattle.recovery_pair.specs.Flights.{counted_if}
+use Rattle.recovery_pair.specs.Pasts.{Continues, EndTurn, GoesOn, GoesOnQuietly, HearsNumber, SendsNumber, arm_told, heard_of, leaving, no_endings, quiet}
 use Rattle.recovery_pair.specs.Turns.{TransmitTurn, TriesTurn}
 use Rattle.recovery_pair.proofs.GoingLaws.{delayed_event, dropped_event, hears_event, hears_then_quiet, known_event, leaves_event, same_itself, sends_event, sends_then_quiet, then_quiet}
 use Rattle.recovery_pair.proofs.QuietLaws.{call_quietly, rearms_quietly, same_quietly}
@@ -79,11 +79,11 @@ module _ {F Q R C K S M P : Type 0} {f : _} {c : _} {q : _} {m : _} {r : _} wher
   pub sends_by_call : (space : SpaceId) (now size : ℕ) (eliciting : Bool) (largest : Option ℕ) (queue : Q) (frames : M)
       (number : ℕ) (forgotten : Option ℕ) (kept : Variables) (old new : Sender F Q R C K S M P f c q m r)
       → CompletesCall (told (Send space now size eliciting largest queue frames) (Ok (Sent number forgotten)) ∷ []) kept
-      old new → Continues (SendsNumber 0 (counted_if eliciting size) space number) old new
+      old new → Continues (SendsNumber 0 (counted_if eliciting size) space number largest) old new
   sends_by_call space now size eliciting largest queue frames number forgotten kept old new does =
       call_goes (Send space now size eliciting largest queue frames) (Ok (Sent number forgotten))
-      (SendsNumber 0 (counted_if eliciting size) space number)
-      (sends_then_quiet 0 (counted_if eliciting size) space number) kept old new does
+      (SendsNumber 0 (counted_if eliciting size) space number largest)
+      (sends_then_quiet 0 (counted_if eliciting size) space number largest) kept old new does
       (λ config start random past keeps. sends_event past space now size eliciting largest queue frames number forgotten
       keeps.numbers_increase keeps.one_outcome keeps.forgotten (it_goes space number))
 
@@ -92,25 +92,25 @@ module _ {F Q R C K S M P : Type 0} {f : _} {c : _} {q : _} {m : _} {r : _} wher
   hears_by_call : (space : SpaceId) (now n : ℕ) (eliciting arm : Bool) (kept : Variables)
       (old new : Sender F Q R C K S M P f c q m r)
       → CompletesCall (told (Received space now n eliciting) (Ok (New arm)) ∷ []) kept old new
-      → Continues (HearsNumber now 0 space n (Ok true) no_numbers) old new
+      → Continues (HearsNumber now 0 space n (Ok true) no_endings) old new
   hears_by_call space now n eliciting arm kept old new does =
-      call_goes (Received space now n eliciting) (Ok (New arm)) (HearsNumber now 0 space n (Ok true) no_numbers)
-      (hears_then_quiet now 0 space n (Ok true) no_numbers) kept old new does
+      call_goes (Received space now n eliciting) (Ok (New arm)) (HearsNumber now 0 space n (Ok true) no_endings)
+      (hears_then_quiet now 0 space n (Ok true) no_endings) kept old new does
       (λ config start random past keeps. hears_event past space now n eliciting arm keeps.new)
 
   known_by_call : (space : SpaceId) (now n : ℕ) (eliciting : Bool) (answer : Answer Q) (kept : Variables)
       (old new : Sender F Q R C K S M P f c q m r) → ((arm : Bool) → answer ≡ New arm → ⊥)
       → CompletesCall (told (Received space now n eliciting) (Ok answer) ∷ []) kept old new
-      → Continues (HearsNumber now 0 space n (Ok false) no_numbers) old new
+      → Continues (HearsNumber now 0 space n (Ok false) no_endings) old new
   known_by_call space now n eliciting answer kept old new other does =
-      call_goes (Received space now n eliciting) (Ok answer) (HearsNumber now 0 space n (Ok false) no_numbers)
-      (hears_then_quiet now 0 space n (Ok false) no_numbers) kept old new does
+      call_goes (Received space now n eliciting) (Ok answer) (HearsNumber now 0 space n (Ok false) no_endings)
+      (hears_then_quiet now 0 space n (Ok false) no_endings) kept old new does
       (λ config start random past keeps. known_event past space now n eliciting answer other keeps.new)
 
   pub heard_by_call : (space : SpaceId) (now n : ℕ) (eliciting : Bool) (answer : Answer Q) (kept : Variables)
       (old new : Sender F Q R C K S M P f c q m r)
       → CompletesCall (told (Received space now n eliciting) (Ok answer) ∷ []) kept old new
-      → Continues (HearsNumber now 0 space n (heard_of (Ok (arm_told answer))) no_numbers) old new
+      → Continues (HearsNumber now 0 space n (heard_of (Ok (arm_told answer))) no_endings) old new
   heard_by_call space now n eliciting (New arm) kept old new does =
       hears_by_call space now n eliciting arm kept old new does
   heard_by_call space now n eliciting answer kept old new does =
@@ -118,11 +118,11 @@ module _ {F Q R C K S M P : Type 0} {f : _} {c : _} {q : _} {m : _} {r : _} wher
 
   pub dropped_by_call : (space : SpaceId) (now n : ℕ) (eliciting : Bool) (refusal : SenderError)
       (old new : Sender F Q R C K S M P f c q m r) → EventResult (Received space now n eliciting) old new (Err refusal)
-      → Continues (HearsNumber now 0 space n (Err refusal) no_numbers) old new
+      → Continues (HearsNumber now 0 space n (Err refusal) no_endings) old new
   dropped_by_call space now n eliciting (refused.Event refusal) old new takes =
       steps_go (Received space now n eliciting) (Err refusal) (HearsNumber now 0 space n (Err (refused.Event refusal))
-      no_numbers)
-      (hears_then_quiet now 0 space n (Err (refused.Event refusal)) no_numbers) old new takes
+      no_endings)
+      (hears_then_quiet now 0 space n (Err (refused.Event refusal)) no_endings) old new takes
       (λ config start random past keeps. dropped_event past space now n eliciting refusal keeps.new)
   dropped_by_call space now n eliciting refused.Unsent old new never = absurd never
 

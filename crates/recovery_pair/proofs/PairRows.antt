@@ -15,21 +15,30 @@ use Rattle.recovery_pair.specs.declared.steps.Fate.TheVariants.{New}
 use Rattle.recovery_pair.specs.declared.steps.LocalStep.TheVariants.{Discard, Expire, Hand}
 use Rattle.recovery_pair.specs.declared.steps.PairAnswer.TheVariants.{Arrived, Done, Expired, Nothing, Sent}
 use Rattle.recovery_pair.specs.declared.steps.PairStep.TheVariants.{Arrive, Local, Send}
+use Rattle.recovery_pair.specs.declared.steps.SentAck.{SentAck}
 use Rattle.recovery_pair.specs.Flights.{flight, is_lost_in}
 use Rattle.recovery_pair.specs.Logs.{PairEvent, PairLog}
 use Rattle.recovery_pair.specs.Promises.Delays.{ReportsDelay}
 use Rattle.recovery_pair.specs.Promises.Excess.{ExceedsByProbes}
+use Rattle.recovery_pair.specs.Promises.LargestAcked.{AcksLargest}
 use Rattle.recovery_pair.specs.Promises.Sends.{SendsWhatWaits}
 use Rattle.recovery_pair.specs.Promises.Window.{SendsWithinWindow}
+
+-- a packet without an ACK frame, and one with a frame up to this number
+abbrev no_frame : SentAck
+no_frame = record { largest = None; delay = 0 }
+
+abbrev frame : ℕ → ℕ → SentAck
+frame largest delay = record { largest = Some largest; delay = delay }
 
 module _ (items : Vec ℕ) where
   -- the client sends 1000 bytes
   abbrev sent : ℕ → Option ℕ → PairEvent
-  sent n window = (Send Client Data 5 1000, Ok (Sent n items true window 0))
+  sent n window = (Send Client Data 5 1000, Ok (Sent n items true window no_frame))
 
   -- an ACK alone does not count
   abbrev acks_alone : PairEvent
-  acks_alone = (Send Client Data 5 60, Ok (Sent 2 items false None 0))
+  acks_alone = (Send Client Data 5 60, Ok (Sent 2 items false None no_frame))
 
   -- one for a window of 1500 bytes, then a probe
   abbrev two : PairLog
@@ -89,21 +98,33 @@ module _ (items other : Vec ℕ) (outcome : AckOutcome) where
   arrived = (Arrive 1 20, Ok (Arrived Client Data 3 60 (New items outcome)))
       ∷ (Arrive 0 10, Ok (Arrived Client Data 4 60 (New items outcome))) ∷ []
 
-  since_the_largest : ReportsDelay arrived (Send Client Data 25 60, Ok (Sent 0 items false None 15))
+  since_the_largest : ReportsDelay arrived (Send Client Data 25 60, Ok (Sent 0 items false None (frame 4 15)))
   since_the_largest = refl
 
-  not_since_the_last : ¬ ReportsDelay arrived (Send Client Data 25 60, Ok (Sent 0 items false None 5))
+  not_since_the_last : ¬ ReportsDelay arrived (Send Client Data 25 60, Ok (Sent 0 items false None (frame 4 5)))
   not_since_the_last is = cc
 
-  a_nanosecond_longer : ¬ ReportsDelay arrived (Send Client Data 25 60, Ok (Sent 0 items false None 16))
+  a_nanosecond_longer : ¬ ReportsDelay arrived (Send Client Data 25 60, Ok (Sent 0 items false None (frame 4 16)))
   a_nanosecond_longer is = cc
 
-  none_in_another_space : ReportsDelay arrived (Send Client Initial 25 60, Ok (Sent 0 items false None 0))
+  none_in_another_space : ReportsDelay arrived (Send Client Initial 25 60, Ok (Sent 0 items false None no_frame))
   none_in_another_space = refl
+
+  goes_up_to_the_largest : AcksLargest arrived (Send Client Data 25 60, Ok (Sent 0 items false None (frame 4 15)))
+  goes_up_to_the_largest = refl
+
+  not_up_to_the_last : ¬ AcksLargest arrived (Send Client Data 25 60, Ok (Sent 0 items false None (frame 3 15)))
+  not_up_to_the_last is = cc
+
+  not_up_to_more : ¬ AcksLargest arrived (Send Client Data 25 60, Ok (Sent 0 items false None (frame 5 15)))
+  not_up_to_more is = cc
+
+  none_was_received_there : ¬ AcksLargest arrived (Send Client Initial 25 60, Ok (Sent 0 items false None (frame 4 0)))
+  none_was_received_there is = is
 
   -- a packet is handed over, and one is sent
   abbrev one_sent : Vec ℕ → PairLog
-  one_sent these = (Send Client Data 5 60, Ok (Sent 0 these true None 0))
+  one_sent these = (Send Client Data 5 60, Ok (Sent 0 these true None no_frame))
       ∷ (Local Client (Hand Data items), Ok Done) ∷ []
 
   all_is_sent : SendsWhatWaits (one_sent items) (Send Client Data 6 60, Ok Nothing)

@@ -14,6 +14,7 @@ use Rattle.recovery_pair.specs.declared.steps.LocalStep.TheVariants.{Hand}
 use Rattle.recovery_pair.specs.declared.steps.PairAnswer.{PairAnswer}
 use Rattle.recovery_pair.specs.declared.steps.PairAnswer.TheVariants.{Done, Nothing, Sent}
 use Rattle.recovery_pair.specs.declared.steps.PairStep.{PairStep}
+use Rattle.recovery_pair.specs.declared.steps.SentAck.{SentAck}
 use Rattle.recovery_pair.specs.declared.steps.PairStep.TheVariants.{Local, Send}
 use Rattle.recovery_pair.specs.declared.steps.WirePacket.{WirePacket}
 use Rattle.recovery_pair.specs.Logs.{PairEvent, PairLog, handed, other_end, part, sent_in}
@@ -108,6 +109,7 @@ step_keeps client server client_after server_after wire wire_after client_waits 
         window = one.0.window;
         delay = one.0.delay;
         flight = one.0.flight;
+        largest = one.0.largest;
         sends = two.0;
         local = local;
       },
@@ -117,7 +119,7 @@ step_keeps client server client_after server_after wire wire_after client_waits 
 -- ---- a packet is sent
 
 module _ (log : PairLog) (space : SpaceId) (now size n : ℕ) (items : Vec ℕ) (eliciting : Bool) (window : Option ℕ)
-    (delay : ℕ) where
+    (delay : SentAck) where
   sent_here : (end : End) (measure : List ℕ → ℕ) (there : SpaceId)
       → sent_in end measure there ((Send end space now size, Ok (Sent n items eliciting window delay)) ∷ log)
       ≡ part (same_space space there) (measure items.items) + sent_in end measure there log
@@ -136,7 +138,7 @@ module _ (log : PairLog) (space : SpaceId) (now size n : ℕ) (items : Vec ℕ) 
   }
 
 pub sent_queue : (end : End) (space : SpaceId) (now size n : ℕ) (items : Vec ℕ) (eliciting : Bool)
-    (window : Option ℕ) (delay : ℕ)
+    (window : Option ℕ) (delay : SentAck)
     (client server client_after server_after : List Waiting)
     → TurnsAt end (λ (old new : List Waiting). LosesOne old new space items.items) client server client_after
     server_after

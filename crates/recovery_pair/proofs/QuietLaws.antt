@@ -46,15 +46,15 @@ use Rattle.recovery_sender.specs.declared.sender.probes.Timeout.TheVariants.{Not
 use Rattle.recovery_sender.proofs.ExtendedLaws.{loss_time_reached, marks_reached}
 use Rattle.recovery_pair.specs.declared.steps.AckOutcome.TheVariants.{Taken}
 use Rattle.recovery_pair.specs.declared.steps.PairAnswer.TheVariants.{Expired}
-use Rattle.recovery_pair.specs.Flights.{Numbers, ends_by_ack, ends_by_timer, is_lost_in, no_numbers}
-use Rattle.recovery_pair.specs.Pasts.{Continues, GoesOn, GoesOnQuietly, ending, quiet}
+use Rattle.recovery_pair.specs.Flights.{ends_by_timer, is_lost_in}
+use Rattle.recovery_pair.specs.Pasts.{Continues, Endings, GoesOn, GoesOnQuietly, ending, endings_by_ack, losing, no_endings, quiet}
 use Rattle.recovery_pair.specs.Turns.{timeout_turn}
 use Rattle.recovery_pair.proofs.GoingLaws.{IsEndingEvent, ending_event, ending_none, ending_then, quiet_ends, quiet_none, quiet_then, same_itself}
 
 -- ---- steps
 
 -- by which no other packets than these end
-abbrev pub AreEnding : {Q S M P : Type 0} → Numbers → List (SenderStep Q S M P) → Type 0
+abbrev pub AreEnding : {Q S M P : Type 0} → Endings → List (SenderStep Q S M P) → Type 0
 AreEnding ends [] = Unit {0}
 AreEnding ends (told event reply ∷ steps) = IsEndingEvent ends event reply × AreEnding ends steps
 AreEnding {Q = Q} ends (occurs event ∷ steps) =
@@ -63,7 +63,7 @@ AreEnding ends (loss_time space time ∷ steps) = AreEnding ends steps
 AreEnding ends (marked marks ∷ steps) = AreEnding ends steps
 
 abbrev pub AreQuiet : {Q S M P : Type 0} → List (SenderStep Q S M P) → Type 0
-AreQuiet = AreEnding no_numbers
+AreQuiet = AreEnding no_endings
 
 module _ {F K Q S M P : Type 0} (built : F → ℕ → ℕ → K) (words : ControllerSemantics K) (queue : QueueModel Q S M P)
     (config : RecoveryConfig F) (start : ℕ) (random : Stream) where
@@ -71,11 +71,11 @@ module _ {F K Q S M P : Type 0} (built : F → ℕ → ℕ → K) (words : Contr
   beginning = begins built words queue config start random
 
   -- each past goes on to one of the new state
-  abbrev Reaches : Numbers → History Q S M P → RecoveryState K P M → Type 0
+  abbrev Reaches : Endings → History Q S M P → RecoveryState K P M → Type 0
   Reaches ends past new =
       (after : History Q S M P) × ReachedBy beginning after new × GoesOn (ending ends) past after
 
-  leads_ending : (ends : Numbers) (steps : List (SenderStep Q S M P)) (old new : RecoveryState K P M)
+  leads_ending : (ends : Endings) (steps : List (SenderStep Q S M P)) (old new : RecoveryState K P M)
       → AreEnding ends steps → StepsLeadTo built words queue steps old new → (past : History Q S M P)
       → ReachedBy beginning past old → Reaches ends past new
   leads_ending ends [] old new calm leads past came = (
@@ -109,11 +109,11 @@ module _ {F K Q S M P : Type 0} (built : F → ℕ → ℕ → K) (words : Contr
   timer_quiet (Some due) = (tt, tt)
 
   pub rearms_quietly : (kept : Variables) (old new : RecoveryState K P M) → RearmsTimer built words queue kept old new
-      → (past : History Q S M P) → ReachedBy beginning past old → Reaches no_numbers past new
+      → (past : History Q S M P) → ReachedBy beginning past old → Reaches no_endings past new
   rearms_quietly kept old new (inl (set, same)) past came =
       (past, subst (λ (at : RecoveryState K P M). ReachedBy beginning past at) (sym same) came, quiet_none past)
   rearms_quietly kept old new (inr (unset, leads)) past came =
-      leads_ending no_numbers (timed (due_of new kept) ∷ []) old new (timer_quiet (due_of new kept)) leads past came
+      leads_ending no_endings (timed (due_of new kept) ∷ []) old new (timer_quiet (due_of new kept)) leads past came
 
 -- ---- the events of calls
 
@@ -127,12 +127,16 @@ ends_within true true other is_same is = refl
 ends_within true false other is_same is = absurd (true≢false (sym is))
 ends_within false one other is_same is = absurd (true≢false (sym is_same))
 
+both_true : (same one : Bool) → same ≡ true → one ≡ true → (same && one) ≡ true
+both_true true one is_same is = is
+both_true false one is_same is = absurd (true≢false (sym is_same))
+
 ends_beyond : (same one other : Bool) → same ≡ true → other ≡ true → (same && (one || other)) ≡ true
 ends_beyond true true other is_same is = refl
 ends_beyond true false other is_same is = is
 ends_beyond false one other is_same is = absurd (true≢false (sym is_same))
 
-module _ (Q S M P : Type 0) (ends : Numbers) where
+module _ (Q S M P : Type 0) (ends : Endings) where
   ending_append : (steps more : List (SenderStep Q S M P)) → AreEnding ends steps → AreEnding ends more
       → AreEnding ends (steps ++ more)
   ending_append [] more first second = second
@@ -142,7 +146,7 @@ module _ (Q S M P : Type 0) (ends : Numbers) where
   ending_append (marked marks ∷ steps) more first second = ending_append steps more first second
 
   trying_ending : (space : SpaceId) (attempts : List LossAttempt)
-      → ((n : ℕ) → IsOneOf n (declared_in attempts) → ends space n ≡ true)
+      → ((n : ℕ) → IsOneOf n (declared_in attempts) → ends.gone space n ≡ true)
       → AreEnding {Q = Q} {S = S} {M = M} {P = P} ends (trying space attempts)
   trying_ending space [] each = tt
   trying_ending space ((number, false) ∷ attempts) each =
@@ -160,7 +164,7 @@ module _ (Q S M P : Type 0) (ends : Numbers) where
   congested_ending now persistent bytes (Some sent) = (λ answer. tt, tt)
 
   acking_ending : (space : SpaceId) (now : ℕ) (limited : Bool) (numbers : List ℕ)
-      → ((n : ℕ) → IsOneOf n numbers → ends space n ≡ true)
+      → ((n : ℕ) → IsOneOf n numbers → (ends.gone space n ≡ true) × (ends.acked space n ≡ true))
       → AreEnding {Q = Q} {S = S} {M = M} {P = P} ends (acking space now limited numbers)
   acking_ending space now limited [] each = tt
   acking_ending space now limited (number ∷ numbers) each =
@@ -186,7 +190,7 @@ module _ (Q S M P : Type 0) (ends : Numbers) where
   detecting_ending : (look : LossPass) (attempts : List LossAttempt) (found : Option ℕ) (losses : Losses) (bytes : ℕ)
       (sent time : Option ℕ) → losses.numbers.items ≡ declared_in attempts
       → ForSome losses.probe (λ number. found ≡ Some number)
-      → ((n : ℕ) → is_lost_in losses n ≡ true → ends look.space n ≡ true)
+      → ((n : ℕ) → is_lost_in losses n ≡ true → ends.gone look.space n ≡ true)
       → AreEnding {Q = Q} {S = S} {M = M} {P = P} ends (detecting look attempts found losses bytes sent time)
   detecting_ending look attempts found losses bytes sent time declared probe each =
       let last : List (SenderStep Q S M P) = trying look.space (probe_attempts found losses.probe)
@@ -236,10 +240,10 @@ module _ {F Q R C K S M P : Type 0} {f : _} {c : _} {q : _} {m : _} {r : _} wher
   quietly_then = joined GoesOnQuietly GoesOnQuietly GoesOnQuietly (quiet_then quiet)
 
   -- no other packets than these end
-  abbrev pub EndsWithin : Numbers → Sender F Q R C K S M P f c q m r → Sender F Q R C K S M P f c q m r → Type 0
+  abbrev pub EndsWithin : Endings → Sender F Q R C K S M P f c q m r → Sender F Q R C K S M P f c q m r → Type 0
   EndsWithin ends = Continues (GoesOn (ending ends))
 
-  pub steps_ending : (ends : Numbers) (steps : List (SenderStep Q S M P)) (old new : Sender F Q R C K S M P f c q m r)
+  pub steps_ending : (ends : Endings) (steps : List (SenderStep Q S M P)) (old new : Sender F Q R C K S M P f c q m r)
       → TakesSteps steps old new → AreEnding ends steps → EndsWithin ends old new
   steps_ending ends steps old new goes calm = record {
     from = λ config start random past came.
@@ -249,10 +253,10 @@ module _ {F Q R C K S M P : Type 0} {f : _} {c : _} {q : _} {m : _} {r : _} wher
 
   pub steps_quietly : (steps : List (SenderStep Q S M P)) (old new : Sender F Q R C K S M P f c q m r)
       → TakesSteps steps old new → AreQuiet steps → Continues GoesOnQuietly old new
-  steps_quietly = steps_ending no_numbers
+  steps_quietly = steps_ending no_endings
 
   -- quietly none of them does
-  pub within_any : (ends : Numbers) (old new : Sender F Q R C K S M P f c q m r) → Continues GoesOnQuietly old new
+  pub within_any : (ends : Endings) (old new : Sender F Q R C K S M P f c q m r) → Continues GoesOnQuietly old new
       → EndsWithin ends old new
   within_any ends old new goes = record {
     from = λ config start random past came. (
@@ -260,7 +264,7 @@ module _ {F Q R C K S M P : Type 0} {f : _} {c : _} {q : _} {m : _} {r : _} wher
         (one.0, one.1, quiet_ends ends past one.0 one.2));
   }
 
-  pub ends_then : (ends : Numbers) (old between new : Sender F Q R C K S M P f c q m r) → EndsWithin ends old between
+  pub ends_then : (ends : Endings) (old between new : Sender F Q R C K S M P f c q m r) → EndsWithin ends old between
       → EndsWithin ends between new → EndsWithin ends old new
   ends_then ends = joined (GoesOn (ending ends)) (GoesOn (ending ends)) (GoesOn (ending ends)) (ending_then ends)
 
@@ -269,7 +273,7 @@ module _ {F Q R C K S M P : Type 0} {f : _} {c : _} {q : _} {m : _} {r : _} wher
   call_quietly steps kept old new does calm = record {
     from = λ config start random past came. (
         let queue = queue_model q.contents q.words q.blank in
-        let one = leads_ending f.built c.words queue config start random no_numbers steps (state_in old) does.between
+        let one = leads_ending f.built c.words queue config start random no_endings steps (state_in old) does.between
         calm does.leads past came in
         let two = rearms_quietly f.built c.words queue config start random kept does.between (state_in new) does.sets
         one.0 one.1 in
@@ -320,8 +324,8 @@ module _ {F Q R C K S M P : Type 0} {f : _} {c : _} {q : _} {m : _} {r : _} wher
 
   -- ---- losses
 
-  pub detects_ending : (ends : Numbers) (space : SpaceId) (now : ℕ) (due_to_ack : Bool) (losses : Losses)
-      (old new : Sender F Q R C K S M P f c q m r) → ((n : ℕ) → is_lost_in losses n ≡ true → ends space n ≡ true)
+  pub detects_ending : (ends : Endings) (space : SpaceId) (now : ℕ) (due_to_ack : Bool) (losses : Losses)
+      (old new : Sender F Q R C K S M P f c q m r) → ((n : ℕ) → is_lost_in losses n ≡ true → ends.gone space n ≡ true)
       → DetectsLosses space now due_to_ack old losses new → EndsWithin ends old new
   detects_ending ends space now due_to_ack losses old new each detects = by (largest_in (state_in old) space) refl
     where
@@ -336,8 +340,8 @@ module _ {F Q R C K S M P : Type 0} {f : _} {c : _} {q : _} {m : _} {r : _} wher
           (min (bytes_counted look packets losses.numbers.items) largest_u64)
           (last_counted look packets losses.numbers.items) looked.1 looked.2.declared looked.2.probe each)
 
-  by_time_ending : (ends : Numbers) (space : SpaceId) (now : ℕ) (losses : Losses)
-      (old new : Sender F Q R C K S M P f c q m r) → ((n : ℕ) → is_lost_in losses n ≡ true → ends space n ≡ true)
+  by_time_ending : (ends : Endings) (space : SpaceId) (now : ℕ) (losses : Losses)
+      (old new : Sender F Q R C K S M P f c q m r) → ((n : ℕ) → is_lost_in losses n ≡ true → ends.gone space n ≡ true)
       → DetectsByTime space now old losses new → EndsWithin ends old new
   by_time_ending ends space now losses old new each by =
       ends_then ends old by.behind new
@@ -348,12 +352,8 @@ module _ {F Q R C K S M P : Type 0} {f : _} {c : _} {q : _} {m : _} {r : _} wher
       → TimeoutResult now old new result → Continues (GoesOn (timeout_turn result)) old new
   timeout_ending now old new (Ok Nothing) is = same_quietly old new is.1
   timeout_ending now old new (Ok (Lost space losses)) is = by_time_ending
-      (ends_by_timer (Ok (Expired (Lost space losses)))) space now losses old new
-      (λ n lost. both (same_space space space) (is_lost_in losses n) (same_itself space) lost) is.1
-    where
-      both : (same lost : Bool) → same ≡ true → lost ≡ true → (same && lost) ≡ true
-      both true lost one two = two
-      both false lost one two = absurd (true≢false (sym one))
+      (losing (ends_by_timer (Ok (Expired (Lost space losses))))) space now losses old new
+      (λ n lost. both_true (same_space space space) (is_lost_in losses n) (same_itself space) lost) is.1
   timeout_ending now old new (Ok (Probe space count)) is = call_quietly [] _ old new is.1 tt
   timeout_ending now old new (Err refusal) is = same_quietly old new is.2
 
@@ -364,7 +364,7 @@ module _ {F Q R C K S M P : Type 0} {f : _} {c : _} {q : _} {m : _} {r : _} wher
   samples_quietly space delay old new None goes = steps_quietly [] old new goes tt
   samples_quietly space delay old new (Some rtt) goes = quietly_then old goes.0 new
       (steps_quietly _ old goes.0 goes.1 (λ answer. tt, tt))
-      (steps_quietly _ goes.0 new goes.2 (first_ending Q S M P no_numbers (state_in goes.0) space _ _))
+      (steps_quietly _ goes.0 new goes.2 (first_ending Q S M P no_endings (state_in goes.0) space _ _))
 
   compared_quietly : (space : SpaceId) (now newly : ℕ) (old new : Sender F Q R C K S M P f c q m r)
       (counts : EcnCounts) (end : EcnOutcome) → EcnCompared space now newly old new counts end
@@ -372,7 +372,7 @@ module _ {F Q R C K S M P : Type 0} {f : _} {c : _} {q : _} {m : _} {r : _} wher
   compared_quietly space now newly old new counts Quiet goes = steps_quietly _ old new goes.2 (tt, tt)
   compared_quietly space now newly old new counts Marked goes = quietly_then old goes.1 new
       (steps_quietly _ old goes.1 goes.3 (tt, tt))
-      (steps_quietly _ goes.1 new goes.4 (congested_ending Q S M P no_numbers now false 0 _))
+      (steps_quietly _ goes.1 new goes.4 (congested_ending Q S M P no_endings now false 0 _))
   compared_quietly space now newly old new counts Failed goes =
       quietly_then old goes.0 new (steps_quietly _ old goes.0 goes.2 (tt, tt)) (steps_quietly _ goes.0 new goes.3 tt)
 
@@ -388,13 +388,15 @@ module _ {F Q R C K S M P : Type 0} {f : _} {c : _} {q : _} {m : _} {r : _} wher
   acknowledges_ending : (space : SpaceId) (now : ℕ) (ranges : List (ℕ × ℕ)) (ack : Ack) (elicits : Bool)
       (old new : Sender F Q R C K S M P f c q m r) (acked : Acknowledged)
       → Acknowledges space now ranges ack elicits old acked new
-      → EndsWithin (ends_by_ack space (Taken acked)) old new
+      → EndsWithin (endings_by_ack space (Taken acked)) old new
   acknowledges_ending space now ranges ack elicits old new acked is =
-      let ends : Numbers = ends_by_ack space (Taken acked) in
+      let ends : Endings = endings_by_ack space (Taken acked) in
       ends_then ends old is.taken new
       (steps_ending ends _ old is.taken is.acks (acking_ending Q S M P ends space now _ acked.numbers.items
-      (λ n one. ends_within (same_space space space) (is_member nat_eq acked.numbers.items n) _ (same_itself space)
-      (one_of_member n acked.numbers.items one))))
+      (λ n one. (let member = one_of_member n acked.numbers.items one in (
+        ends_within (same_space space space) (is_member nat_eq acked.numbers.items n) _ (same_itself space) member,
+        both_true (same_space space space) (is_member nat_eq acked.numbers.items n) (same_itself space) member,
+      )))))
       (ends_then ends is.taken is.ended new
       (within_any ends is.taken is.ended (steps_quietly _ is.taken is.ended is.ends (λ answer. tt, tt)))
       (ends_then ends is.ended is.sampled new
@@ -410,11 +412,11 @@ module _ {F Q R C K S M P : Type 0} {f : _} {c : _} {q : _} {m : _} {r : _} wher
 
   pub ack_ending : (space : SpaceId) (now : ℕ) (ranges : List (ℕ × ℕ)) (ack : Ack)
       (old new : Sender F Q R C K S M P f c q m r) (acked : Acknowledged)
-      → AckResult space now ranges ack old new (Ok acked) → EndsWithin (ends_by_ack space (Taken acked)) old new
+      → AckResult space now ranges ack old new (Ok acked) → EndsWithin (endings_by_ack space (Taken acked)) old new
   ack_ending space now ranges ack old new acked is = by acked.numbers.items refl
     where
-      by : (numbers : List ℕ) → acked.numbers.items ≡ numbers → EndsWithin (ends_by_ack space (Taken acked)) old new
-      by [] none = within_any (ends_by_ack space (Taken acked)) old new
+      by : (numbers : List ℕ) → acked.numbers.items ≡ numbers → EndsWithin (endings_by_ack space (Taken acked)) old new
+      by [] none = within_any (endings_by_ack space (Taken acked)) old new
           (call_quietly [] old.variables old new (is.none none).does tt)
       by (number ∷ numbers) some =
           acknowledges_ending space now ranges ack is.elicits old new acked (is.some (λ none. absurd cc))

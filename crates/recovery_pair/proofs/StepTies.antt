@@ -1,5 +1,5 @@
 -- Each step of an end keeps the promises, and the tie of the log. It is proved once, for the end that makes it.
-use Rattle.std.proofs.Common.{◌≡◌, ℕ, nat_le, ◌<◌, ◌≤◌, ◌⊎◌, inl, inr, Bool, true, false, List, [], ◌∷◌, ◌++◌, length, get_or, ◌+◌, Option, None, Some, Result, Ok, refl, sym, ap, subst, ◌∙◌, arith}
+use Rattle.std.proofs.Common.{◌≡◌, ℕ, nat_le, ◌<◌, ◌≤◌, ◌⊎◌, inl, inr, Bool, true, false, true≢false, List, [], ◌∷◌, ◌++◌, length, get_or, ◌+◌, Option, None, Some, Result, Ok, refl, sym, ap, subst, ◌∙◌, arith}
 use Rattle.std.specs.Prelude.{IfOk, map}
 use Rattle.std.specs.Global.{Vec}
 use Rattle.std.specs.List.{AllByRecursion}
@@ -9,7 +9,7 @@ use Rattle.recovery_acks.specs.Acks.{delay_at}
 use Rattle.recovery_base.specs.declared.below.SpaceId.{SpaceId}
 use Rattle.recovery_base.specs.Units.{number_limit}
 use Rattle.recovery_events.specs.declared.event.Refusal.TheVariants.{NoMemory, NumberTooLarge, SpaceDiscarded}
-use Rattle.recovery_losses.specs.Frames.{IsInAckRanges}
+use Rattle.recovery_losses.specs.Frames.{IsInAckRanges, largest_of}
 use Rattle.recovery_paths.specs.declared.path_pair.PathName.TheVariants.{Current}
 use Rattle.recovery_history.specs.History.{History, begins, queue_model}
 use Rattle.recovery_history.specs.Promises.NewNumbers.{came_in, is_discarded, is_new}
@@ -32,18 +32,20 @@ use Rattle.recovery_pair.specs.declared.steps.PairStep.{PairStep}
 use Rattle.recovery_pair.specs.declared.steps.PairStep.TheVariants.{Arrive, Local, Send}
 use Rattle.recovery_pair.specs.declared.steps.WirePacket.{WirePacket}
 use Rattle.recovery_pair.specs.Frames.{IsSoundFrame}
-use Rattle.recovery_pair.specs.Logs.{IsAt, PairEvent, PairLog, LoggedPacket, deliveries_of, numbers_at, other_end, sends_of, was_discarded, wire_of}
-use Rattle.recovery_pair.specs.Flights.{Numbers, counted_if, ends_by_ack, ends_by_fate, no_numbers}
-use Rattle.recovery_pair.specs.Pasts.{AcksWithin, Continues, GoesOn, GoesOnQuietly, HearsNumber, IsHeardBy, SendsWithAck, EndTurn, WereSentUnder, hearing, packet_leaving, quiet}
+use Rattle.recovery_pair.specs.Logs.{IsAt, PairEvent, PairLog, LoggedPacket, ack_of, deliveries_of, numbers_at, other_end, sends_of, was_discarded, wire_of}
+use Rattle.recovery_pair.specs.Flights.{counted_if, no_numbers}
+use Rattle.recovery_pair.specs.Pasts.{AcksWithin, Continues, GoesOn, GoesOnQuietly, Endings, HearsNumber, IsHeardBy, SendsWithAck, EndTurn, WereSentUnder, endings_by_ack, endings_by_fate, hearing, packet_leaving, quiet}
 use Rattle.recovery_pair.specs.Permits.{FitsChecked}
 use Rattle.recovery_pair.specs.Promises.Arrivals.{ArrivesAsSent, Delivers, IsArrival, IsFateBy, IsFirstDelivery}
 use Rattle.recovery_pair.specs.Promises.DeliveredOnce.{AcksDelivered}
 use Rattle.recovery_pair.specs.Promises.Locals.{IsLocalAnswer}
 use Rattle.recovery_pair.specs.Promises.NeverAccused.{NeverAccuses}
-use Rattle.recovery_pair.specs.Promises.Delays.{ReportsDelay}
+use Rattle.recovery_pair.specs.Promises.Delays.{ReportsDelay, largest_new}
 use Rattle.recovery_pair.specs.Promises.Excess.{ExceedsByProbes}
+use Rattle.recovery_pair.specs.Promises.LargestAcked.{AcksLargest, IsLargestOf}
 use Rattle.recovery_pair.specs.Promises.Threefold.{ServerSendsThreefold}
 use Rattle.recovery_pair.specs.Promises.Window.{SendsWithinWindow}
+use Rattle.recovery_pair.specs.Rising.{RisesAbove}
 use Rattle.recovery_pair.specs.Tied.{Flows, HasPast, IsLogged, IsOnWire, IsTiedAt, Travels, sent_as}
 use Rattle.recovery_pair.specs.Turns.{HearTurn, HearsPacket, SendsPacket, TurnsAt, local_turn, reply_of}
 use Rattle.recovery_pair.proofs.BoundLaws.{exceeds_by, within_on}
@@ -52,6 +54,7 @@ use Rattle.recovery_pair.proofs.LargestLaws.{largest_by}
 use Rattle.recovery_pair.proofs.GoingLaws.{quiet_none}
 use Rattle.recovery_pair.proofs.LogLaws.{Adds, IsNoPacket, IsNotLocal, arriving_adds, arriving_adds_not, idle_adds, local_adds, local_adds_not, local_moves, logged_on, sending_adds, sending_adds_not}
 use Rattle.recovery_pair.proofs.QuietLaws.{same_quietly}
+use Rattle.recovery_pair.proofs.RisingLaws.{frame_largest, heard_top, rises_by, rises_on, rises_sent, rises_still, rises_there}
 use Rattle.recovery_pair.proofs.TieLaws.{all_at, all_map, all_push, before_it, delivered_known, flows_kept, flows_sent, flows_taken, other_sends, other_takes, received_delivered, sending, sends_kept, sent_once, takes_kept, taking}
 
 -- ---- ends
@@ -75,6 +78,7 @@ pub record KeepsExchange (validated : Bool) (log : PairLog) (event : PairEvent) 
   pub window : SendsWithinWindow log event
   pub delay : ReportsDelay log event
   pub flight : ExceedsByProbes (event ∷ log)
+  pub largest : AcksLargest log event
 
 -- ---- one end makes a step, the other does nothing
 
@@ -108,6 +112,8 @@ module _ {F Q R C K S M P : Type 0} {f : _} {c : _} {q : _} {m : _} {r : _} wher
     listed = tied.listed;
     wired = tied.wired;
     within = tied.within;
+    own_rise = tied.peer_rise;
+    peer_rise = rw (twice end) tied.own_rise;
   }
 
   -- what holds for the end that makes a step holds for both
@@ -184,13 +190,19 @@ silent_delay : (log : PairLog) (event : PairEvent) → IsSilent event → Report
 silent_delay log (Send from there now size, Ok (Sent number items eliciting window delay)) silent = absurd silent
 silent_delay log event silent = tt
 
+silent_largest : (log : PairLog) (event : PairEvent) → IsSilent event → AcksLargest log event
+silent_largest log (Send from there now size, Ok (Sent number items eliciting window delay)) silent = absurd silent
+silent_largest log event silent = tt
+
 silent_delivers : (log : PairLog) (event : PairEvent) → IsSilent event → AcksDelivered log event
 silent_delivers log (step, Ok (Arrived to there number size (New items acked))) silent = absurd silent
 silent_delivers log event silent = tt
 
 module _ {F Q R C K S M P : Type 0} {f : _} {c : _} {q : _} {m : _} {r : _} (end : End) (step : PairStep)
     (answer : Result PairAnswer SenderError) (turn : EndTurn) (silent : IsSilent (step, answer))
-    (none : turn.heard ≡ None) (adds : (log : PairLog) → Adds turn end (step, answer) log)
+    (none : turn.heard ≡ None) (uncarried : turn.carries ≡ None)
+    (unacked : (space : SpaceId) (n : ℕ) → turn.acks space n ≡ true → ⊥)
+    (adds : (log : PairLog) → Adds turn end (step, answer) log)
     (adds_not : (log : PairLog) → Adds quiet (other_end end) (step, answer) log) (wire : List WirePacket)
     (here there after : Sender F Q R C K S M P f c q m r) (goes : Continues (GoesOn turn) here after)
     (validated : Bool) (log : PairLog) (tied : IsTiedAt validated end log here there wire) where
@@ -236,6 +248,8 @@ module _ {F Q R C K S M P : Type 0} {f : _} {c : _} {q : _} {m : _} {r : _} (end
               (was.0, silent_takes event silent log packet.from packet.space n ∙ was.1));
         }) wire tied.wired;
         within = within_on log event (silent_window log event silent) tied.within;
+        own_rise = rises_on end turn tied.own.past own.0 tied.peer.past wire own.2 uncarried tied.own_rise unacked;
+        peer_rise = rises_still (other_end end) tied.peer.past tied.own.past own.0 wire own.2.given tied.peer_rise;
       }
 
   pub silent_step : ArrivesAsSent log (step, answer) → KeepsExchange validated log (step, answer)
@@ -249,6 +263,7 @@ module _ {F Q R C K S M P : Type 0} {f : _} {c : _} {q : _} {m : _} {r : _} (end
       window = silent_window log (step, answer) silent;
       delay = silent_delay log (step, answer) silent;
       flight = exceeds_by ((step, answer) ∷ log) tied_still.within;
+      largest = silent_largest log (step, answer) silent;
     },
     tied_still,
   )
@@ -278,34 +293,33 @@ module _ {Q S M P : Type 0} (log : PairLog) (now size : ℕ) (end : End) (past a
     (flows : Flows log end past peer) (back : Flows log (other_end end) peer past)
     (wired : AllByRecursion (IsOnWire log) wire) where
   abbrev sent_log : PairLog
-  sent_log = sending log packet.space now size packet.number items packet.eliciting window packet.delay end ∷ log
+  sent_log = sending log packet.space now size packet.number items packet.eliciting window (ack_of packet) end ∷ log
 
   out_sent : Flows sent_log end after peer
-  out_sent = flows_sent log packet.space now size packet.number items packet.eliciting window packet.delay end past
+  out_sent = flows_sent log packet.space now size packet.number items packet.eliciting window (ack_of packet) end past
       after peer
-      (counted_if packet.eliciting size)
+      (counted_if packet.eliciting size) (largest_of packet.ranges.items)
       sends.sends flows
 
   back_sent : Flows sent_log (other_end end) peer after
   back_sent = flows_kept log sent_log (other_end end)
-      (packet_leaving size (counted_if packet.eliciting size) packet.space packet.number) peer peer past after
-      (other_sends log packet.space now size packet.number items packet.eliciting window packet.delay end) (λ space n.
-      refl) (λ
-      space n given. given) refl
+      (packet_leaving size (counted_if packet.eliciting size) packet.space packet.number
+      (largest_of packet.ranges.items)) peer peer past after
+      (other_sends log packet.space now size packet.number items packet.eliciting window (ack_of packet) end)
+      (λ space n. refl) (λ space n given. given) refl
       sends.sends.goes back
 
   still_by : (from : End) (space : SpaceId) (n : ℕ) (before : List ℕ) → (from ≡ end) ⊎ (from ≡ other_end end)
       → sends_of from space n log ≡ before ∷ [] → sends_of from space n sent_log ≡ before ∷ []
   still_by from space n before (inl same) once =
       subst (λ (e : End). sends_of e space n sent_log ≡ before ∷ []) (sym same)
-      (sends_kept log packet.space now size packet.number items packet.eliciting window packet.delay end past after
-      peer (counted_if
-      packet.eliciting size)
+      (sends_kept log packet.space now size packet.number items packet.eliciting window (ack_of packet) end past after
+      peer (counted_if packet.eliciting size) (largest_of packet.ranges.items)
       sends.sends flows space n before
       (subst (λ (e : End). sends_of e space n log ≡ before ∷ []) same once))
   still_by from space n before (inr same) once =
       subst (λ (e : End). sends_of e space n sent_log ≡ before ∷ []) (sym same)
-      (other_sends log packet.space now size packet.number items packet.eliciting window packet.delay end space n
+      (other_sends log packet.space now size packet.number items packet.eliciting window (ack_of packet) end space n
       ∙ subst (λ (e : End). sends_of e space n log ≡ before ∷ []) same once)
 
   on_still : (one : WirePacket) → IsOnWire log one → IsOnWire sent_log one
@@ -324,9 +338,9 @@ module _ {Q S M P : Type 0} (log : PairLog) (now size : ℕ) (end : End) (past a
   last_on : IsOnWire sent_log packet
   last_on = record {
     sent = subst (λ (e : End). sends_of e packet.space packet.number sent_log ≡ packet.items.items ∷ []) (sym sender)
-        (sent_once log packet.space now size packet.number items packet.eliciting window packet.delay end past after
+        (sent_once log packet.space now size packet.number items packet.eliciting window (ack_of packet) end past after
         peer
-        (counted_if packet.eliciting size)
+        (counted_if packet.eliciting size) (largest_of packet.ranges.items)
         sends.sends flows
         ∙ ap (λ (all : List ℕ). all ∷ []) told);
     sound = sound;
@@ -348,7 +362,7 @@ module _ {F Q R C K S M P : Type 0} {f : _} {c : _} {q : _} {m : _} {r : _} (end
     (tied : IsTiedAt validated end log here there wire) where
   -- its delay is since the largest packet was received, by the log
   waited_by : ReportsDelay log
-      (Send end packet.space now size, Ok (Sent packet.number items packet.eliciting window packet.delay))
+      (Send end packet.space now size, Ok (Sent packet.number items packet.eliciting window (ack_of packet)))
   waited_by = is.waited
       ∙ ap (delay_at now) (largest_by (begins f.built c.words (queue_model q.contents q.words q.blank) tied.own.config
       tied.own.start tied.own.random) tied.own.past (state_in here) tied.own.came packet.space
@@ -356,7 +370,7 @@ module _ {F Q R C K S M P : Type 0} {f : _} {c : _} {q : _} {m : _} {r : _} (end
 
   -- it fits into the window that is checked, by the log
   fits_by : (checked : Option ℕ) → FitsChecked here size checked → SendsWithinWindow log
-      (Send end packet.space now size, Ok (Sent packet.number items packet.eliciting checked packet.delay))
+      (Send end packet.space now size, Ok (Sent packet.number items packet.eliciting checked (ack_of packet)))
   fits_by None fits = tt
   fits_by (Some room) fits =
       let known = tied.logged.flight no_numbers in
@@ -365,13 +379,13 @@ module _ {F Q R C K S M P : Type 0} {f : _} {c : _} {q : _} {m : _} {r : _} (end
       added_fits _ _ _ size room known counted fits
 
   tied_sent : IsTiedAt validated end (sending log packet.space now size packet.number items packet.eliciting window
-      packet.delay end
+      (ack_of packet) end
       ∷ log) after there
       (wire ++ packet ∷ [])
   tied_sent =
       let own = is.goes.from tied.own.config tied.own.start tied.own.random tied.own.past tied.own.came in
       let event : PairEvent = sending log packet.space now size packet.number items packet.eliciting window
-      packet.delay end in
+      (ack_of packet) end in
       record {
         own = record {
           config = tied.own.config;
@@ -387,13 +401,15 @@ module _ {F Q R C K S M P : Type 0} {f : _} {c : _} {q : _} {m : _} {r : _} (end
         back = back_sent log now size end tied.own.past own.0 tied.peer.past packet items window wire is.sender is.told
             is.sound own.2 tied.out tied.back tied.wired;
         logged = logged_on validated log event end tied.own.config.validated
-            (packet_leaving size (counted_if packet.eliciting size) packet.space packet.number) tied.own.past own.0
-            (sending_adds log packet.space now size packet.number items packet.eliciting window packet.delay end)
+            (packet_leaving size (counted_if packet.eliciting size) packet.space packet.number
+            (largest_of packet.ranges.items)) tied.own.past own.0
+            (sending_adds log packet.space now size packet.number items packet.eliciting window (ack_of packet) end
+            (largest_of packet.ranges.items))
             own.2.sends.goes
             tied.logged;
         peer_logged = logged_on validated log event (other_end end) tied.peer.config.validated quiet tied.peer.past
             tied.peer.past (sending_adds_not log packet.space now size packet.number items packet.eliciting window
-            packet.delay end)
+            (ack_of packet) end)
             (quiet_none tied.peer.past) tied.peer_logged;
         listed = ap (λ (sent : List LoggedPacket). sent ++ record {
           from = end;
@@ -408,12 +424,24 @@ module _ {F Q R C K S M P : Type 0} {f : _} {c : _} {q : _} {m : _} {r : _} (end
             is.told
             is.sound own.2 tied.out tied.back tied.wired;
         within = within_on log event (fits_by window is.fits) tied.within;
+        own_rise = rises_sent log size (counted_if packet.eliciting size) end tied.own.past own.0 tied.peer.past packet
+            wire is.sender is.sound own.2 tied.out tied.back tied.wired tied.own_rise tied.peer_rise;
+        peer_rise = rises_there log size (counted_if packet.eliciting size) end tied.own.past own.0 tied.peer.past
+            packet wire is.sender is.sound own.2 tied.out tied.back tied.wired tied.own_rise tied.peer_rise;
       }
 
+  -- its ACK frame goes up to the largest number received, by the log
+  largest_by_log : IsLargestOf (largest_of packet.ranges.items) (largest_new end packet.space log)
+  largest_by_log =
+      let own = is.goes.from tied.own.config tied.own.start tied.own.random tied.own.past tied.own.came in
+      subst (IsLargestOf (largest_of packet.ranges.items)) (tied.logged.largest packet.space)
+      (frame_largest packet.space tied.own.past packet.ranges.items is.sound own.2.acks own.2.whole
+      (tied.own_rise.keeps packet.space))
+
   sent_step : KeepsExchange validated log (sending log packet.space now size packet.number items packet.eliciting
-      window packet.delay end)
+      window (ack_of packet) end)
       × IsTiedAt validated end (sending log packet.space now size packet.number items packet.eliciting window
-      packet.delay end ∷
+      (ack_of packet) end ∷
       log) after there
       (wire ++ packet ∷ [])
   sent_step = (
@@ -422,14 +450,15 @@ module _ {F Q R C K S M P : Type 0} {f : _} {c : _} {q : _} {m : _} {r : _} (end
       delivered = tt;
       arrives = tt;
       limited = threefold_at validated (sending log packet.space now size packet.number items packet.eliciting window
-          packet.delay
+          (ack_of packet)
           end ∷ log) end after
           there (wire ++ packet ∷ []) tied_sent;
       window = fits_by window is.fits;
       delay = waited_by;
-      flight = exceeds_by (sending log packet.space now size packet.number items packet.eliciting window packet.delay
+      flight = exceeds_by (sending log packet.space now size packet.number items packet.eliciting window (ack_of packet)
           end ∷ log)
           tied_sent.within;
+      largest = largest_by_log;
     },
     tied_sent,
   )
@@ -440,12 +469,12 @@ module _ {F Q R C K S M P : Type 0} {f : _} {c : _} {q : _} {m : _} {r : _} wher
       (here there after : Sender F Q R C K S M P f c q m r) → packet.space ≡ space
       → SendsPacket here after end space now size packet items window
       → StepKeepsAt end here there wire (Send end space now size) (Ok (Sent packet.number items packet.eliciting
-      window packet.delay)) after
+      window (ack_of packet))) after
       (wire ++ packet ∷ [])
   sends_at end space now size packet items window wire here there after same =
       subst (λ (at : SpaceId). SendsPacket here after end at now size packet items window
       → StepKeepsAt end here there wire (Send end at now size) (Ok (Sent packet.number items packet.eliciting window
-      packet.delay))
+      (ack_of packet)))
       after
       (wire ++ packet ∷ [])) same (λ is validated log tied.
       sent_step end now size packet items window wire here there after is validated log tied)
@@ -458,16 +487,17 @@ module _ {F Q R C K S M P : Type 0} {f : _} {c : _} {q : _} {m : _} {r : _} wher
       window)
       client server client_after server_after
       → ExchangeKept client server wire (Send end space now size) (Ok (Sent packet.number items packet.eliciting
-      window packet.delay)) client_after
+      window (ack_of packet))) client_after
       server_after
       all
   send_turn end space now size packet items window client server client_after server_after wire all pushed turns =
       subst (λ (all : List WirePacket). ExchangeKept client server wire (Send end space now size)
-      (Ok (Sent packet.number items packet.eliciting window packet.delay)) client_after server_after all) (sym pushed)
+      (Ok (Sent packet.number items packet.eliciting window (ack_of packet))) client_after server_after all)
+      (sym pushed)
       (by_turn end (λ (old new : Sender F Q R C K S M P f c q m r). SendsPacket old new end space now size packet items
       window)
       wire (wire ++ packet ∷ []) (Send end space now size) (Ok (Sent packet.number items packet.eliciting window
-      packet.delay))
+      (ack_of packet)))
       (λ here there after is. sends_at end space now size packet items window wire here there after is.there is)
       client server client_after server_after turns)
 
@@ -476,7 +506,7 @@ module _ {F Q R C K S M P : Type 0} {f : _} {c : _} {q : _} {m : _} {r : _} wher
 module _ {Q S M P : Type 0} (log : PairLog) (at now : ℕ) (from : End) (past peer after : History Q S M P)
     (packet : WirePacket) (items : Vec ℕ) (acked : AckOutcome) (wire : List WirePacket) (sender : packet.from ≡ from)
     (told : items.items ≡ packet.items.items)
-    (ends : Numbers) (hears : HearsNumber now packet.size packet.space packet.number (Ok true) ends peer after)
+    (ends : Endings) (hears : HearsNumber now packet.size packet.space packet.number (Ok true) ends peer after)
     (flows : Flows log from past peer) (wired : AllByRecursion (IsOnWire log) wire) (on : IsOnWire log packet) where
   abbrev new_log : PairLog
   new_log = taking log at now packet.space packet.number packet.size items acked (other_end from) ∷ log
@@ -583,7 +613,7 @@ module _ {F Q R C K S M P : Type 0} {f : _} {c : _} {q : _} {m : _} {r : _} (at 
 
   module _ (fate : Fate) (is : HearsPacket here after packet now fate) where
     own_went : (past : History Q S M P) × HearsNumber now packet.size packet.space packet.number (reply_of fate)
-        (ends_by_fate packet.space fate) tied.own.past past
+        (endings_by_fate packet.space fate) tied.own.past past
     own_went =
         let own = is.goes.from tied.own.config tied.own.start tied.own.random tied.own.past tied.own.came in
         (own.0, own.2)
@@ -607,8 +637,9 @@ module _ {F Q R C K S M P : Type 0} {f : _} {c : _} {q : _} {m : _} {r : _} (at 
 
     -- nothing new arrives
     pub old_step : IsSilent (Arrive at now, Ok (Arrived (other_end from) packet.space packet.number packet.size fate))
-        → (hearing now packet.size packet.space packet.number (reply_of fate) (ends_by_fate packet.space fate)).heard ≡
-        None
+        → (hearing now packet.size packet.space packet.number (reply_of fate)
+        (endings_by_fate packet.space fate)).heard ≡ None
+        → ((space : SpaceId) (n : ℕ) → (endings_by_fate packet.space fate).acked space n ≡ true → ⊥)
         → Delivers packet.items.items fate
         → IsFirstDelivery (deliveries_of (other_end from) packet.space packet.number log) fate
         → KeepsExchange validated log
@@ -616,10 +647,10 @@ module _ {F Q R C K S M P : Type 0} {f : _} {c : _} {q : _} {m : _} {r : _} (at 
         × IsTiedAt validated (other_end from)
         ((Arrive at now, Ok (Arrived (other_end from) packet.space packet.number packet.size fate)) ∷ log) after there
         wire
-    old_step silent none delivers once = silent_step (other_end from) (Arrive at now)
+    old_step silent none unacked delivers once = silent_step (other_end from) (Arrive at now)
         (Ok (Arrived (other_end from) packet.space packet.number packet.size fate))
-        (hearing now packet.size packet.space packet.number (reply_of fate) (ends_by_fate packet.space fate)) silent
-        none
+        (hearing now packet.size packet.space packet.number (reply_of fate) (endings_by_fate packet.space fate)) silent
+        none refl unacked
         (λ log. arriving_adds log at now packet.space packet.number packet.size (other_end from) fate)
         (λ log. arriving_adds_not log at now packet.space packet.number packet.size (other_end from) fate) wire here
         there after (record {
@@ -657,9 +688,9 @@ module _ {F Q R C K S M P : Type 0} {f : _} {c : _} {q : _} {m : _} {r : _} (at 
               own.2.goes.given refl (quiet_none tied.peer.past) tied.out;
           back = subst (λ (e : End). Flows (event ∷ log) e tied.peer.past own.0) (sym (twice from))
               (flows_new log at now from tied.peer.past tied.own.past own.0 packet items acked wire sender
-              is.takes.told (ends_by_ack packet.space acked) own.2 toward tied.wired on_wire);
+              is.takes.told (endings_by_ack packet.space acked) own.2 toward tied.wired on_wire);
           logged = logged_on validated log event (other_end from) tied.own.config.validated
-              (hearing now packet.size packet.space packet.number (Ok true) (ends_by_ack packet.space acked))
+              (hearing now packet.size packet.space packet.number (Ok true) (endings_by_ack packet.space acked))
               tied.own.past
               own.0
               (arriving_adds log at now packet.space packet.number packet.size (other_end from) (New items acked))
@@ -670,8 +701,16 @@ module _ {F Q R C K S M P : Type 0} {f : _} {c : _} {q : _} {m : _} {r : _} (at 
               (New items acked)) (quiet_none tied.peer.past) tied.peer_logged;
           listed = tied.listed;
           wired = wired_new log at now from tied.peer.past tied.own.past own.0 packet items acked wire sender
-              is.takes.told (ends_by_ack packet.space acked) own.2 toward tied.wired on_wire;
+              is.takes.told (endings_by_ack packet.space acked) own.2 toward tied.wired on_wire;
           within = within_on log event tt tied.within;
+          own_rise = rises_by (other_end from)
+              (hearing now packet.size packet.space packet.number (Ok true) (endings_by_ack packet.space acked))
+              tied.own.past own.0 tied.peer.past wire own.2.goes refl tied.own_rise
+              (λ space. heard_top now packet acked tied.own.past own.0 own.2 is.takes.within
+              (all_at (RisesAbove (other_end (other_end from)) tied.own.past) wire at packet within found
+              tied.own_rise.above (sender ∙ sym (twice from))) space (tied.own_rise.keeps space));
+          peer_rise = rises_still (other_end (other_end from)) tied.peer.past tied.own.past own.0 wire
+              own.2.goes.given tied.peer_rise;
         }
 
     pub new_step : KeepsExchange validated log event
@@ -686,12 +725,13 @@ module _ {F Q R C K S M P : Type 0} {f : _} {c : _} {q : _} {m : _} {r : _} (at 
             delivered = acks_delivered log (other_end from) tied.own.past tied.peer.past tied.out packet.space ranges
                 acks_known (Arrive at now) packet.number packet.size items acked is.takes.within;
             arrives = arrival (New items acked) is is.takes.told (once_new log at now from tied.peer.past tied.own.past
-                own.0 packet items acked wire sender is.takes.told (ends_by_ack packet.space acked) own.2 toward
+                own.0 packet items acked wire sender is.takes.told (endings_by_ack packet.space acked) own.2 toward
                 tied.wired on_wire);
             limited = threefold_at validated (event ∷ log) (other_end from) after there wire tied_new;
             window = tt;
             delay = tt;
             flight = exceeds_by (event ∷ log) tied_new.within;
+            largest = tt;
           },
           tied_new,
         )
@@ -705,11 +745,11 @@ module _ {F Q R C K S M P : Type 0} {f : _} {c : _} {q : _} {m : _} {r : _} (at 
   arrive_step from sender (New items acked) here there after is validated log tied =
       new_step at now from packet wire within found sender here there after validated log tied items acked is
   arrive_step from sender Duplicate here there after is validated log tied =
-      old_step at now from packet wire within found sender here there after validated log tied Duplicate is tt refl tt
-      tt
+      old_step at now from packet wire within found sender here there after validated log tied Duplicate is tt refl
+      (λ space n never. true≢false (sym never)) tt tt
   arrive_step from sender (Dropped refusal) here there after is validated log tied =
       old_step at now from packet wire within found sender here there after validated log tied (Dropped refusal) is tt
-      refl tt tt
+      refl (λ space n never. true≢false (sym never)) tt tt
 
   -- a packet arrives at the end that did not send it
   pub arrives_at : (to : End) (fate : Fate) (client server client_after server_after : Sender F Q R C K S M P f c q m r)
@@ -760,7 +800,8 @@ module _ {F Q R C K S M P : Type 0} {f : _} {c : _} {q : _} {m : _} {r : _} wher
   local_step end step result wire answer here there after goes validated log tied =
       let none = local_answer end step result answer in
       silent_step end (Local end step) result (local_turn step result) (none_silent (Local end step, result) none)
-      (local_moves log step result).heard (λ log. local_adds log end step result none)
+      (local_moves log step result).heard (local_moves log step result).carries
+      (local_moves log step result).unacked (λ log. local_adds log end step result none)
       (λ log. local_adds_not log end step result none) wire here there after goes validated log tied
       (local_arrives log end step result none)
 
@@ -782,7 +823,8 @@ module _ {F Q R C K S M P : Type 0} {f : _} {c : _} {q : _} {m : _} {r : _} wher
       → (here there after : Sender F Q R C K S M P f c q m r) → Continues GoesOnQuietly here after
       → StepKeepsAt end here there wire step answer after wire
   quiet_step end step answer wire none other arrives here there after goes validated log tied =
-      silent_step end step answer quiet (none_silent (step, answer) none) refl
+      silent_step end step answer quiet (none_silent (step, answer) none) refl refl
+      (λ space n never. true≢false (sym never))
       (λ log. idle_adds log end step answer none other) (λ log. idle_adds log (other_end end) step answer none other)
       wire here there after goes validated log tied (arrives log tied.listed)
 

@@ -16,10 +16,10 @@ use Rattle.recovery_pair.specs.declared.steps.End.{End}
 use Rattle.recovery_pair.specs.declared.steps.End.TheVariants.{Client, Server}
 use Rattle.recovery_pair.specs.declared.steps.Fate.TheVariants.{New}
 use Rattle.recovery_pair.specs.declared.steps.PairAnswer.TheVariants.{Arrived, Sent}
+use Rattle.recovery_pair.specs.declared.steps.SentAck.{SentAck}
 use Rattle.recovery_pair.specs.declared.steps.PairStep.TheVariants.{Arrive, Send}
 use Rattle.recovery_pair.specs.Logs.{PairEvent, PairLog, deliveries_of, other_end, sends_of}
-use Rattle.recovery_pair.specs.Flights.{Numbers}
-use Rattle.recovery_pair.specs.Pasts.{Came, GoesOn, HearsNumber, SendsNumber, EndTurn, WasSentUnder, hearing}
+use Rattle.recovery_pair.specs.Pasts.{Came, Endings, GoesOn, HearsNumber, SendsNumber, EndTurn, WasSentUnder, hearing}
 use Rattle.recovery_pair.specs.Promises.DeliveredOnce.{IsDeliveredOnce}
 use Rattle.recovery_pair.specs.Tied.{Flows, HasArrived, IsNotThere, IsUnsent, Travels}
 use Rattle.recovery_pair.proofs.GoingLaws.{came_on, itself, not_new, same_itself}
@@ -133,7 +133,7 @@ left_out true items more is = absurd (true≢false is)
 -- ---- a packet is sent
 
 module _ (log : PairLog) (there : SpaceId) (now size m : ℕ) (items : Vec ℕ) (eliciting : Bool) (window : Option ℕ)
-    (delay : ℕ) where
+    (delay : SentAck) where
   abbrev pub sending : End → PairEvent
   sending end = (Send end there now size, Ok (Sent m items eliciting window delay))
 
@@ -152,7 +152,8 @@ module _ (log : PairLog) (there : SpaceId) (now size m : ℕ) (items : Vec ℕ) 
   sending_delivers end at space n = refl
 
   module _ {Q S M P : Type 0} (end : End) (past past_after peer : History Q S M P)
-      (counted : ℕ) (sends : SendsNumber size counted there m past past_after) (flows : Flows log end past peer) where
+      (counted : ℕ) (largest : Option ℕ) (sends : SendsNumber size counted there m largest past past_after)
+      (flows : Flows log end past peer) where
     -- nothing was sent under the number before
     unsent_by : Travels log end there m past peer → IsUnsent log end there m past peer
     unsent_by (inl unsent) = unsent
@@ -229,7 +230,7 @@ module _ (log : PairLog) (at now : ℕ) (there : SpaceId) (m size : ℕ) (items 
 
   -- `from` sent it, and the other end hears it
   module _ {Q S M P : Type 0} (from : End) (past peer peer_after : History Q S M P)
-      (ends : Numbers) (hears : HearsNumber now size there m (Ok true) ends peer peer_after) (sent : sends_of from
+      (ends : Endings) (hears : HearsNumber now size there m (Ok true) ends peer peer_after) (sent : sends_of from
       there m
       log ≡ items.items ∷ [])
       (flows : Flows log from past peer) where

@@ -3,7 +3,7 @@ use Rattle.std.proofs.Common.{◌≡◌, ℕ, ◌+◌, ◌≤◌, ◌&&◌, Bool
 use Rattle.std.specs.Prelude.{not, if◌then◌else◌}
 use Rattle.std.specs.Global.{Vec}
 use Rattle.recovery_base.specs.declared.below.SpaceId.{SpaceId}
-use Rattle.recovery_losses.specs.Frames.{IsInAckRanges}
+use Rattle.recovery_losses.specs.Frames.{IsInAckRanges, largest_of}
 use Rattle.recovery_losses.specs.Variables.{is_probe_due}
 use Rattle.recovery_history.specs.History.{begins, queue_model}
 use Rattle.recovery_sender.specs.Calls.{bytes_in_flight, window_of}
@@ -19,26 +19,27 @@ use Rattle.recovery_pair.specs.declared.steps.End.{End}
 use Rattle.recovery_pair.specs.declared.steps.Fate.TheVariants.{New}
 use Rattle.recovery_pair.specs.declared.steps.WirePacket.{WirePacket}
 use Rattle.recovery_pair.specs.Frames.{IsFrameFor}
-use Rattle.recovery_pair.specs.Flights.{Numbers, counted_if, ends_by_ack, no_numbers}
-use Rattle.recovery_pair.specs.Pasts.{AcksWithin, Continues, GoesOn, GoesOnQuietly, HearsNumber, NoAccusation, SendsNumber, arriving, ending, leaving, quiet}
+use Rattle.recovery_pair.specs.Flights.{counted_if}
+use Rattle.recovery_pair.specs.Pasts.{AcksWithin, Continues, Endings, GoesOn, GoesOnQuietly, HearsNumber, NoAccusation, SendsNumber, arriving, ending, endings_by_ack, leaving, no_endings, quiet}
 use Rattle.recovery_pair.specs.Permits.{FitsChecked}
 use Rattle.recovery_pair.specs.Turns.{FitsIfPermitted, HearsPacket, PacksPacket, PackTurn, SendsPacket, SendTurn}
-use Rattle.recovery_pair.proofs.FrameLaws.{pending_received}
+use Rattle.recovery_pair.proofs.FrameLaws.{pending_received, received_pending}
 use Rattle.recovery_pair.proofs.GoingLaws.{arrives_then_hears, hears_then_ends, hears_then_quiet, leaves_then_sends, left_quietly, quiet_then, quiet_then_sends, sends_then_quiet}
 use Rattle.recovery_pair.proofs.QuietLaws.{joined}
 
 module _ {F Q R C K S M P : Type 0} {f : _} {c : _} {q : _} {m : _} {r : _} where
-  pub quietly_sends : (counted : ℕ) (space : SpaceId) (n : ℕ) (old between new : Sender F Q R C K S M P f c q m r)
-      → Continues GoesOnQuietly old between → Continues (SendsNumber 0 counted space n) between new
-      → Continues (SendsNumber 0 counted space n) old new
-  quietly_sends counted space n = joined GoesOnQuietly (SendsNumber 0 counted space n) (SendsNumber 0 counted space n)
-      (quiet_then_sends 0 counted space n)
+  module _ (counted : ℕ) (space : SpaceId) (n : ℕ) (largest : Option ℕ)
+      (old between new : Sender F Q R C K S M P f c q m r) where
+    pub quietly_sends : Continues GoesOnQuietly old between
+        → Continues (SendsNumber 0 counted space n largest) between new
+        → Continues (SendsNumber 0 counted space n largest) old new
+    quietly_sends = joined GoesOnQuietly (SendsNumber 0 counted space n largest)
+        (SendsNumber 0 counted space n largest) (quiet_then_sends 0 counted space n largest) old between new
 
-  pub sends_quietly : (counted : ℕ) (space : SpaceId) (n : ℕ) (old between new : Sender F Q R C K S M P f c q m r)
-      → Continues (SendsNumber 0 counted space n) old between → Continues GoesOnQuietly between new
-      → Continues (SendsNumber 0 counted space n) old new
-  sends_quietly counted space n = joined (SendsNumber 0 counted space n) GoesOnQuietly (SendsNumber 0 counted space n)
-      (sends_then_quiet 0 counted space n)
+    pub sends_quietly : Continues (SendsNumber 0 counted space n largest) old between
+        → Continues GoesOnQuietly between new → Continues (SendsNumber 0 counted space n largest) old new
+    sends_quietly = joined (SendsNumber 0 counted space n largest) GoesOnQuietly
+        (SendsNumber 0 counted space n largest) (sends_then_quiet 0 counted space n largest) old between new
 
   -- ---- a window that is checked
 
@@ -89,12 +90,14 @@ module _ {F Q R C K S M P : Type 0} {f : _} {c : _} {q : _} {m : _} {r : _} wher
                 two.0,
                 two.1,
                 record {
-                  sends = rw packs.elicits (leaves_then_sends size (counted_if eliciting size) space packet.number past
-                      one.0 two.0 one.2 two.2);
+                  sends = rw (packs.elicits, packs.acks) (leaves_then_sends size (counted_if eliciting size) space
+                      packet.number (largest_of ranges) past one.0 two.0 one.2 two.2);
                   acks = λ k is. pending_received (begins f.built c.words (queue_model q.contents q.words q.blank)
-                      config
-                      start
-                      random) past (state_in old) came space k (frame.each k (subst (IsInAckRanges k) packs.acks is));
+                      config start random) past (state_in old) came space k
+                      (frame.each k (subst (IsInAckRanges k) packs.acks is));
+                  whole = λ k was kept. subst (IsInAckRanges k) (sym packs.acks) (frame.whole k
+                      (received_pending (begins f.built c.words (queue_model q.contents q.words q.blank) config start
+                      random) past (state_in old) came space k was kept));
                 },
               ));
         };
@@ -131,29 +134,29 @@ module _ {F Q R C K S M P : Type 0} {f : _} {c : _} {q : _} {m : _} {r : _} wher
 
   pub came_turn : (now size : ℕ) (space : SpaceId) (n : ℕ) (reply : Result Bool SenderError)
       (old counted heard : Sender F Q R C K S M P f c q m r) → Continues (GoesOn (arriving size)) old counted
-      → Continues (HearsNumber now 0 space n reply no_numbers) counted heard
-      → Continues (HearsNumber now size space n reply no_numbers) old heard
+      → Continues (HearsNumber now 0 space n reply no_endings) counted heard
+      → Continues (HearsNumber now size space n reply no_endings) old heard
   came_turn now size space n reply =
-      joined (GoesOn (arriving size)) (HearsNumber now 0 space n reply no_numbers)
-      (HearsNumber now size space n reply no_numbers) (arrives_then_hears now size space n reply no_numbers)
+      joined (GoesOn (arriving size)) (HearsNumber now 0 space n reply no_endings)
+      (HearsNumber now size space n reply no_endings) (arrives_then_hears now size space n reply no_endings)
 
   -- it is new
   pub heard_turn : (now : ℕ) (packet : WirePacket) (items : Vec ℕ) (acked : AckOutcome)
       (old counted heard taken new : Sender F Q R C K S M P f c q m r) → items.items ≡ packet.items.items
       → Continues (GoesOn (arriving packet.size)) old counted
-      → Continues (HearsNumber now 0 packet.space packet.number (Ok true) no_numbers) counted heard
-      → Continues (GoesOn (ending (ends_by_ack packet.space acked))) heard taken → NoAccusation packet.space
+      → Continues (HearsNumber now 0 packet.space packet.number (Ok true) no_endings) counted heard
+      → Continues (GoesOn (ending (endings_by_ack packet.space acked))) heard taken → NoAccusation packet.space
       packet.ranges.items heard acked
       → AcksWithin packet.ranges.items acked → Continues GoesOnQuietly taken new
       → HearsPacket old new packet now (New items acked)
   heard_turn now packet items acked old counted heard taken new told counts hears takes honest within plans =
       let came = came_turn now packet.size packet.space packet.number (Ok true) old counted heard counts hears in
-      let ends : Numbers = ends_by_ack packet.space acked in
+      let ends : Endings = endings_by_ack packet.space acked in
       record {
         goes = joined (HearsNumber now packet.size packet.space packet.number (Ok true) ends) GoesOnQuietly
             (HearsNumber now packet.size packet.space packet.number (Ok true) ends)
             (hears_then_quiet now packet.size packet.space packet.number (Ok true) ends) old taken new
-            (joined (HearsNumber now packet.size packet.space packet.number (Ok true) no_numbers) (GoesOn (ending ends))
+            (joined (HearsNumber now packet.size packet.space packet.number (Ok true) no_endings) (GoesOn (ending ends))
             (HearsNumber now packet.size packet.space packet.number (Ok true) ends)
             (hears_then_ends now packet.size packet.space packet.number (Ok true) ends) old heard taken came takes)
             plans;

@@ -36,6 +36,11 @@ ends_by_ack there (Taken acked) space n =
     same_space there space && (is_member nat_eq acked.numbers.items n || is_lost_in acked.losses n)
 ends_by_ack there outcome space n = false
 
+-- what it newly acknowledges
+abbrev pub acked_by : SpaceId → AckOutcome → Numbers
+acked_by there (Taken acked) space n = same_space there space && is_member nat_eq acked.numbers.items n
+acked_by there outcome space n = false
+
 abbrev pub ends_by_fate : SpaceId → Fate → Numbers
 ends_by_fate there (New items acked) space n = ends_by_ack there acked space n
 ends_by_fate there fate space n = false

@@ -11,9 +11,10 @@ use Rattle.recovery_sender.specs.declared.sender.Sender.{Sender}
 abbrev pub IsSoundFrame : List (ℕ × ℕ) → Type 0
 IsSoundFrame ranges = (ranges ≡ []) ⊎ (are_ranges ranges ≡ true)
 
--- it has only numbers that are to be acknowledged in the space; and its delay is since the largest was received
+-- it has exactly the numbers that are to be acknowledged in the space; and its delay is since the largest was received
 pub record IsFrameFor {F Q R C K S M P : Type 0} {f : _} {c : _} {q : _} {m : _} {r : _} (space : SpaceId)
     (now : ℕ) (sender : Sender F Q R C K S M P f c q m r) (ranges : List (ℕ × ℕ)) (delay : ℕ) : Type 0 where
   pub sound : IsSoundFrame ranges
   pub each : (n : ℕ) → IsInAckRanges n ranges → IsPending (acks_of (space_of space (state_in sender).spaces)) n
+  pub whole : (n : ℕ) → IsPending (acks_of (space_of space (state_in sender).spaces)) n → IsInAckRanges n ranges
   pub waited : delay ≡ delay_at now (acks_of (space_of space (state_in sender).spaces)).counts.largest

@@ -4,6 +4,7 @@ pub mod Logs
 pub mod Pasts
 pub mod Permits
 pub mod Promises
+pub mod Rising
 pub mod Runs
 pub mod Tied
 pub mod Timed

@@ -2,6 +2,7 @@
 use Rattle.std.specs.Prelude.{◌≡◌, ℕ, ◌+◌, ◌<◌, ◌==◌, ◌&&◌, ◌||◌, Bool, true, false, List, [], ◌∷◌, ◌++◌, length, get_or, Result, Ok, if◌then◌else◌}
 use Rattle.recovery_base.specs.declared.below.SpaceId.{SpaceId}
 use Rattle.recovery_base.specs.Spaces.{same_space}
+use Rattle.recovery_losses.specs.Frames.{largest_of}
 use Rattle.recovery_sender.specs.declared.sender.SenderError.{SenderError}
 use Rattle.recovery_pair.specs.declared.steps.End.{End}
 use Rattle.recovery_pair.specs.declared.steps.End.TheVariants.{Client, Server}
@@ -10,6 +11,8 @@ use Rattle.recovery_pair.specs.declared.steps.LocalStep.TheVariants.{AddressVali
 use Rattle.recovery_pair.specs.declared.steps.PairAnswer.{PairAnswer}
 use Rattle.recovery_pair.specs.declared.steps.PairAnswer.TheVariants.{Arrived, Done, Sent}
 use Rattle.recovery_pair.specs.declared.steps.PairStep.{PairStep}
+use Rattle.recovery_pair.specs.declared.steps.SentAck.{SentAck}
+use Rattle.recovery_pair.specs.declared.steps.WirePacket.{WirePacket}
 use Rattle.recovery_pair.specs.declared.steps.PairStep.TheVariants.{Local, Send}
 
 abbrev pub other_end : End → End
@@ -72,6 +75,10 @@ wire_of (event ∷ earlier) = wire_of earlier
 -- a packet has this position on it
 abbrev pub IsAt : List LoggedPacket → ℕ → LoggedPacket → Type 0
 IsAt wire at packet = (at < length wire) × (get_or wire at packet ≡ packet)
+
+-- what is reported of the ACK frame of a packet
+abbrev pub ack_of : WirePacket → SentAck
+ack_of packet = record { largest = largest_of packet.ranges.items; delay = packet.delay }
 
 -- ---- what an end knows
 

@@ -1,5 +1,5 @@
 -- How the past of an end goes on: what was sent stays sent, what was received stays received.
-use Rattle.std.specs.Prelude.{◌≡◌, ℕ, ◌+◌, ◌<◌, ◌≤◌, ◌⊎◌, ◌||◌, nat_eq, nat_le, Bool, true, false, List, [], ◌∷◌, sum_by, Option, None, Some, Result, Ok, Err, if◌then◌else◌}
+use Rattle.std.specs.Prelude.{◌≡◌, ℕ, ◌+◌, ◌<◌, ◌≤◌, ◌⊎◌, ◌||◌, ◌&&◌, ◌==◌, nat_eq, nat_le, Bool, true, false, List, [], ◌∷◌, sum_by, Option, None, Some, IfSome, IsSomeAnd, Result, Ok, Err, if◌then◌else◌}
 use Rattle.std.specs.Set.{is_member}
 use Rattle.rand_core.specs.Stream.{Stream}
 use Rattle.recovery_acks.specs.Acks.{largest_with}
@@ -10,11 +10,11 @@ use Rattle.recovery_events.specs.declared.event.Answer.{Answer}
 use Rattle.recovery_events.specs.declared.event.Answer.TheVariants.{New}
 use Rattle.recovery_events.specs.declared.event.Event.TheVariants.{Received}
 use Rattle.recovery_events.specs.declared.event.Refusal.TheVariants.{NoMemory, NumberTooLarge, SpaceDiscarded}
-use Rattle.recovery_losses.specs.Frames.{IsInAckRanges}
+use Rattle.recovery_losses.specs.Frames.{IsInAckRanges, largest_of}
 use Rattle.recovery_losses.specs.Losses.{IsOneOf}
 use Rattle.recovery_history.specs.declared.config.RecoveryConfig.{RecoveryConfig}
 use Rattle.recovery_history.specs.History.{History, begins, queue_model}
-use Rattle.recovery_history.specs.Promises.Acknowledged.{WasReceived}
+use Rattle.recovery_history.specs.Promises.Acknowledged.{WasDropped, WasReceived, largest_in}
 use Rattle.recovery_history.specs.Promises.Counted.{sum_on}
 use Rattle.recovery_history.specs.Promises.Datagrams.{bytes_in, bytes_out, datagrams_on, is_validated}
 use Rattle.recovery_history.specs.Promises.Fates.{is_given, times}
@@ -29,7 +29,9 @@ use Rattle.recovery_sender.specs.declared.sender.SenderError.{SenderError}
 use Rattle.recovery_sender.specs.declared.sender.SenderError.TheVariants.{Event}
 use Rattle.recovery_pair.specs.declared.steps.AckOutcome.{AckOutcome}
 use Rattle.recovery_pair.specs.declared.steps.AckOutcome.TheVariants.{Taken}
-use Rattle.recovery_pair.specs.Flights.{Numbers, counted_if, no_numbers}
+use Rattle.recovery_pair.specs.declared.steps.Fate.{Fate}
+use Rattle.recovery_pair.specs.declared.steps.Fate.TheVariants as fates
+use Rattle.recovery_pair.specs.Flights.{Numbers, acked_by, counted_if, ends_by_ack, no_numbers}
 use Rattle.recovery_pair.specs.Frames.{IsSoundFrame}
 use Rattle.recovery_pair.specs.Promises.NeverAccused.{IsSpared}
 
@@ -53,9 +55,18 @@ pub record EndTurn : Type 0 where
   pub ends : Numbers
   -- when a packet is heard
   pub at : ℕ
+  -- a packet is sent: its space, its number, and the largest number of its ACK frame, if it has one
+  pub carries : Option (SpaceId × ℕ × Option ℕ)
+  -- no other packets than these are acknowledged
+  pub acks : Numbers
 
-abbrev pub ending : Numbers → EndTurn
-ending ends = record {
+-- the packets that end, and those of them that are acknowledged
+pub record Endings : Type 0 where
+  pub gone : Numbers
+  pub acked : Numbers
+
+abbrev pub ending : Endings → EndTurn
+ending endings = record {
   came = None;
   heard = None;
   arrives = 0;
@@ -63,12 +74,29 @@ ending ends = record {
   discards = None;
   validates = false;
   counts = None;
-  ends = ends;
+  ends = endings.gone;
   at = 0;
+  carries = None;
+  acks = endings.acked;
 }
 
+-- none of them is acknowledged
+abbrev pub losing : Numbers → Endings
+losing gone = record { gone = gone; acked = no_numbers }
+
+abbrev pub no_endings : Endings
+no_endings = losing no_numbers
+
+-- the endings of an ACK frame, and of a packet that arrives
+abbrev pub endings_by_ack : SpaceId → AckOutcome → Endings
+endings_by_ack there outcome = record { gone = ends_by_ack there outcome; acked = acked_by there outcome }
+
+abbrev pub endings_by_fate : SpaceId → Fate → Endings
+endings_by_fate there (fates.New items acked) = endings_by_ack there acked
+endings_by_fate there fate = no_endings
+
 abbrev pub quiet : EndTurn
-quiet = ending no_numbers
+quiet = ending no_endings
 
 abbrev pub arriving : ℕ → EndTurn
 arriving size = record quiet { arrives = size }
@@ -79,9 +107,13 @@ leaving size = record quiet { leaves = size }
 abbrev pub discarding : SpaceId → EndTurn
 discarding space = record quiet { discards = Some space; ends = λ there n. same_space space there }
 
--- a packet is sent in a datagram of this size
-abbrev pub packet_leaving : ℕ → ℕ → SpaceId → ℕ → EndTurn
-packet_leaving size counted space n = record quiet { leaves = size; counts = Some (space, n, counted) }
+-- a packet is sent in a datagram of this size, with an ACK up to this number, if any
+abbrev pub packet_leaving : ℕ → ℕ → SpaceId → ℕ → Option ℕ → EndTurn
+packet_leaving size counted space n largest = record quiet {
+  leaves = size;
+  counts = Some (space, n, counted);
+  carries = Some (space, n, largest);
+}
 
 abbrev pub validating : EndTurn
 validating = record quiet { validates = true }
@@ -95,12 +127,11 @@ abbrev pub new_by : SpaceId × ℕ → Result Bool SenderError → Option (Space
 new_by number (Ok true) = Some number
 new_by number reply = None
 
-abbrev pub hearing : ℕ → ℕ → SpaceId → ℕ → Result Bool SenderError → Numbers → EndTurn
-hearing now size space n reply ends = record quiet {
+abbrev pub hearing : ℕ → ℕ → SpaceId → ℕ → Result Bool SenderError → Endings → EndTurn
+hearing now size space n reply endings = record (ending endings) {
   came = came_by (space, n) reply;
   heard = new_by (space, n) reply;
   arrives = size;
-  ends = ends;
   at = now;
 }
 
@@ -113,6 +144,11 @@ with_largest space (Some number) now before =
 abbrev pub with_number : SpaceId → Option (SpaceId × ℕ) → List ℕ → List ℕ
 with_number space None before = before
 with_number space (Some number) before = if same_space number.0 space then number.1 ∷ before else before
+
+-- the largest number in the ACK frame of a packet, after one was sent
+abbrev pub with_carried : SpaceId → ℕ → Option (SpaceId × ℕ × Option ℕ) → Option ℕ → Option ℕ
+with_carried space n None before = before
+with_carried space n (Some sent) before = if same_space sent.0 space && sent.1 == n then sent.2 else before
 
 -- what a sent packet adds in flight, unless its number is gone
 abbrev pub added : Option (SpaceId × ℕ × ℕ) → Numbers → ℕ
@@ -162,6 +198,15 @@ module _ {Q S M P : Type 0} where
       else largest_came space earlier
   largest_came space (happened ∷ earlier) = largest_came space earlier
 
+  -- the largest number received is still to be acknowledged (RFC 9000, 13.2.3)
+  abbrev pub KeepsLargest : SpaceId → History Q S M P → Type 0
+  KeepsLargest space past = IfSome (largest_came space past) (λ largest. ¬ WasDropped space largest.0 past)
+
+  -- the ACK of each packet that is acknowledged has only numbers below the largest received (RFC 9000, 13.2.4)
+  abbrev pub AcksBelow : Numbers → SpaceId → History Q S M P → History Q S M P → Type 0
+  AcksBelow acks space past after = (n l : ℕ) → acks space n ≡ true → largest_in space n past ≡ Some l
+      → IsSomeAnd (largest_came space after) (λ largest. l < largest.0)
+
   -- only this is added
   pub record GoesOn (turn : EndTurn) (past after : History Q S M P) : Type 0 where
     pub given : (space : SpaceId) (n : ℕ) → WasSentUnder space n past → WasSentUnder space n after
@@ -178,28 +223,35 @@ module _ {Q S M P : Type 0} where
         ≡ with_largest space turn.heard turn.at (largest_came space past)
     pub flight : (gone : Numbers) → added turn.counts gone
         + flight_in (λ space n. turn.ends space n || gone space n) past ≤ flight_in gone after
+    pub carried : (space : SpaceId) (n : ℕ) → largest_in space n after
+        ≡ with_carried space n turn.carries (largest_in space n past)
+    pub topped : (space : SpaceId) → AcksBelow turn.acks space past after → KeepsLargest space past
+        → KeepsLargest space after
 
   abbrev pub GoesOnQuietly : History Q S M P → History Q S M P → Type 0
   GoesOnQuietly = GoesOn quiet
 
   -- a packet is sent under a number that was not used before, in a datagram of this size; `counted` bytes of the packet
   -- count in flight
-  pub record SendsNumber (size counted : ℕ) (space : SpaceId) (n : ℕ) (past after : History Q S M P) : Type 0 where
-    pub goes : GoesOn (packet_leaving size counted space n) past after
+  pub record SendsNumber (size counted : ℕ) (space : SpaceId) (n : ℕ) (largest : Option ℕ)
+      (past after : History Q S M P) : Type 0 where
+    pub goes : GoesOn (packet_leaving size counted space n largest) past after
     pub unused : WasSentUnder space n past → ⊥
+    pub above : (k : ℕ) → WasSentUnder space k past → k < n
     pub used : WasSentUnder space n after
     pub small : n < number_limit
 
-  -- and with an ACK of numbers that were received
+  -- and with an ACK of all numbers that are to be acknowledged
   pub record SendsWithAck (size counted : ℕ) (space : SpaceId) (n : ℕ) (ranges : List (ℕ × ℕ))
       (past after : History Q S M P) : Type 0 where
-    pub sends : SendsNumber size counted space n past after
+    pub sends : SendsNumber size counted space n (largest_of ranges) past after
     pub acks : (k : ℕ) → IsInAckRanges k ranges → WasReceived space k past
+    pub whole : (k : ℕ) → WasReceived space k past → ¬ WasDropped space k past → IsInAckRanges k ranges
 
   -- a packet comes: it is new, a duplicate, or dropped, by what came before
-  pub record HearsNumber (now size : ℕ) (space : SpaceId) (n : ℕ) (reply : Result Bool SenderError) (ends : Numbers)
-      (past after : History Q S M P) : Type 0 where
-    pub goes : GoesOn (hearing now size space n reply ends) past after
+  pub record HearsNumber (now size : ℕ) (space : SpaceId) (n : ℕ) (reply : Result Bool SenderError)
+      (endings : Endings) (past after : History Q S M P) : Type 0 where
+    pub goes : GoesOn (hearing now size space n reply endings) past after
     pub by : IsHeardBy (is_discarded space past) (nat_le number_limit n) (is_new (came_in space past) n) reply
 
 -- ---- the same of a sender

@@ -7,6 +7,7 @@ use Rattle.recovery_pair.specs.Promises.Arrivals.{ArrivesAsSent}
 use Rattle.recovery_pair.specs.Promises.Delays.{ReportsDelay}
 use Rattle.recovery_pair.specs.Promises.DeliveredOnce.{AcksDelivered}
 use Rattle.recovery_pair.specs.Promises.Excess.{ExceedsByProbes}
+use Rattle.recovery_pair.specs.Promises.LargestAcked.{AcksLargest}
 use Rattle.recovery_pair.specs.Promises.Locals.{AnswersLocally}
 use Rattle.recovery_pair.specs.Promises.NeverAccused.{NeverAccuses}
 use Rattle.recovery_pair.specs.Promises.Sends.{SendsWhatWaits}
@@ -16,6 +17,7 @@ pub mod Arrivals
 pub mod Delays
 pub mod DeliveredOnce
 pub mod Excess
+pub mod LargestAcked
 pub mod Locals
 pub mod NeverAccused
 pub mod Sends
@@ -41,6 +43,9 @@ pub record KeepsPromises (validated : Bool) (log : PairLog) (event : PairEvent) 
   -- The ACK delay that an endpoint reports is the time since it received the largest number of the space, as new (RFC
   -- 9000, 13.2.5).
   pub delay : ReportsDelay log event
+  -- The largest number of an ACK frame that an endpoint sends is the largest number that it received in the space (RFC
+  -- 9000, 13.2.3). So the ACK delay is the time since the packet of that number arrived.
+  pub largest : AcksLargest log event
   -- An endpoint has nothing to send in a space only once it has sent there no less than was passed to it, by every
   -- measure of the items of a packet (RFC 9000, 13).
   pub sends : SendsWhatWaits log event

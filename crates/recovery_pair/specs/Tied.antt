@@ -24,6 +24,7 @@ use Rattle.recovery_pair.specs.Logs.{PairLog, LoggedPacket, bytes_arrived, bytes
 use Rattle.recovery_pair.specs.Waits.{AreQueued}
 use Rattle.recovery_pair.specs.Pasts.{Came, WasSentUnder, bytes_received, bytes_transmitted, flight_in, largest_came}
 use Rattle.recovery_pair.specs.Promises.Delays.{largest_new}
+use Rattle.recovery_pair.specs.Rising.{AcksRise}
 
 -- ---- one number, from one end to the other
 
@@ -117,6 +118,8 @@ module _ {F Q R C K S M P : Type 0} {f : _} {c : _} {q : _} {m : _} {r : _} wher
     pub listed : wire_of log ≡ map sent_as wire
     pub wired : AllByRecursion (IsOnWire log) wire
     pub within : (one : End) → flight_of one is_some no_numbers log ≤ largest_window one log
+    pub own_rise : AcksRise end own.past peer.past wire
+    pub peer_rise : AcksRise (other_end end) peer.past own.past wire
 
   -- and what waits at each
   pub record IsTied (validated : Bool) (log : PairLog) (client server : Sender F Q R C K S M P f c q m r)

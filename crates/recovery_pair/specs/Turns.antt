@@ -3,6 +3,7 @@ use Rattle.std.specs.Prelude.{◌≡◌, ℕ, Bool, true, false, List, Option, R
 use Rattle.std.specs.Global.{Vec}
 use Rattle.recovery_acks.specs.Acks.{delay_at}
 use Rattle.recovery_base.specs.declared.below.SpaceId.{SpaceId}
+use Rattle.recovery_losses.specs.Frames.{largest_of}
 use Rattle.recovery_spaces.specs.Spaces.{acks_of, space_of}
 use Rattle.recovery_sender.specs.Senders.{state_in}
 use Rattle.recovery_sender.specs.declared.sender.Sender.{Sender}
@@ -22,10 +23,10 @@ use Rattle.recovery_pair.specs.declared.steps.LocalStep.TheVariants as local
 use Rattle.recovery_pair.specs.declared.steps.PairAnswer.{PairAnswer}
 use Rattle.recovery_pair.specs.declared.steps.PairAnswer.TheVariants as answer
 use Rattle.recovery_pair.specs.declared.steps.WirePacket.{WirePacket}
-use Rattle.recovery_pair.specs.Flights.{counted_if, ends_by_fate, ends_by_timer}
+use Rattle.recovery_pair.specs.Flights.{counted_if, ends_by_timer}
 use Rattle.recovery_pair.specs.Frames.{IsSoundFrame}
 use Rattle.recovery_pair.specs.Permits.{FitsChecked, window_checked}
-use Rattle.recovery_pair.specs.Pasts.{AcksWithin, Continues, GoesOn, GoesOnQuietly, HearsNumber, NoAccusation, SendsNumber, SendsWithAck, EndTurn, discarding, ending, leaving, quiet, validating}
+use Rattle.recovery_pair.specs.Pasts.{AcksWithin, Continues, GoesOn, GoesOnQuietly, HearsNumber, NoAccusation, SendsNumber, SendsWithAck, EndTurn, discarding, ending, endings_by_fate, leaving, losing, quiet, validating}
 
 -- a call that may fail
 abbrev pub TriesTurn : {F Q R C K S M P : Type 0} {f : _} {c : _} {q : _} {m : _} {r : _} → EndTurn
@@ -47,13 +48,13 @@ if_done turn other = quiet
 abbrev pub local_turn : LocalStep → Result PairAnswer SenderError → EndTurn
 local_turn (local.Discard space now) answer = if_done (discarding space) answer
 local_turn local.AddressValidated answer = if_done validating answer
-local_turn (local.Expire now) answer = ending (ends_by_timer answer)
+local_turn (local.Expire now) answer = ending (losing (ends_by_timer answer))
 local_turn step answer = quiet
 
 -- what is declared lost when the loss detection timer expires
 abbrev pub timeout_turn : Result Timeout SenderError → EndTurn
-timeout_turn (Ok timeout) = ending (ends_by_timer (Ok (answer.Expired timeout)))
-timeout_turn (Err refusal) = ending (ends_by_timer (Err refusal))
+timeout_turn (Ok timeout) = ending (losing (ends_by_timer (Ok (answer.Expired timeout))))
+timeout_turn (Err refusal) = ending (losing (ends_by_timer (Err refusal)))
 
 -- a datagram that is permitted fits into the window that is checked
 abbrev pub FitsIfPermitted : {F Q R C K S M P : Type 0} {f : _} {c : _} {q : _} {m : _} {r : _}
@@ -94,7 +95,7 @@ module _ {F Q R C K S M P : Type 0} {f : _} {c : _} {q : _} {m : _} {r : _} (old
       pub delays : packet.delay ≡ delay
       pub elicits : packet.eliciting ≡ eliciting
       pub window_is : window ≡ checked
-      pub goes : Continues (SendsNumber 0 (counted_if eliciting size) space packet.number) old new
+      pub goes : Continues (SendsNumber 0 (counted_if eliciting size) space packet.number (largest_of ranges)) old new
 
     abbrev pub PackTurn : End → SpaceId → ℕ → Bool → Option ℕ → List (ℕ × ℕ) → ℕ → Outgoing → Type 0
     PackTurn from space size eliciting checked ranges delay (outgoing.Sent packet items window) =
@@ -119,7 +120,7 @@ module _ {F Q R C K S M P : Type 0} {f : _} {c : _} {q : _} {m : _} {r : _} (old
     -- a packet arrives
     pub record HearsPacket (packet : WirePacket) (now : ℕ) (fate : Fate) : Type 0 where
       pub goes : Continues (HearsNumber now packet.size packet.space packet.number (reply_of fate)
-          (ends_by_fate packet.space fate)) old new
+          (endings_by_fate packet.space fate)) old new
       pub takes : IfNew packet fate
 
     abbrev pub HearTurn : WirePacket → ℕ → Result Fate SenderError → Type 0

@@ -1,8 +1,8 @@
 //! The calls of a sender that an end makes, and how each continues the sender's past.
 ghost use Rattle.std.specs.Prelude.{◌≡◌, ◌≢◌, [], ◌∷◌, true, IfOk, MatchResult, Some};
-ghost use Rattle.recovery_pair.specs.Flights.{counted_if, ends_by_ack, no_numbers};
+ghost use Rattle.recovery_pair.specs.Flights.{counted_if};
 ghost use Rattle.recovery_pair.specs.Frames.{IsFrameFor};
-ghost use Rattle.recovery_pair.specs.Pasts.{Continues, GoesOn, GoesOnQuietly, HearsNumber, NoAccusation, SendsNumber, AcksWithin, arm_told, arriving, discarding, ending, heard_of, validating};
+ghost use Rattle.recovery_pair.specs.Pasts.{Continues, GoesOn, GoesOnQuietly, HearsNumber, NoAccusation, SendsNumber, AcksWithin, arm_told, arriving, discarding, ending, endings_by_ack, heard_of, no_endings, validating};
 ghost use Rattle.recovery_pair.specs.Permits.{FitsChecked, said_by, window_checked};
 ghost use Rattle.recovery_pair.specs.Timed.{KeepsTimer};
 ghost use Rattle.recovery_pair.specs.Turns.{FitsIfPermitted, TransmitTurn, TriesTurn, timeout_turn};
@@ -158,8 +158,8 @@ where
     F: ControllerFactory,
     R: Rng + Drop,
     ensures goes { MatchResult result
-        (λ number. Continues (SendsNumber 0 (counted_if eliciting size) space number) sender.old
-        sender.new)
+        (λ number. Continues (SendsNumber 0 (counted_if eliciting size) space number largest)
+        sender.old sender.new)
         (λ refused. Continues GoesOnQuietly sender.old sender.new) }
     ensures timer { KeepsTimer sender.old sender.new }
 {
@@ -228,7 +228,7 @@ pub(crate) fn hear<F, R>(
 where
     F: ControllerFactory,
     R: Rng + Drop,
-    ensures goes { Continues (HearsNumber now 0 space number (heard_of result) no_numbers)
+    ensures goes { Continues (HearsNumber now 0 space number (heard_of result) no_endings)
         sender.old sender.new }
     ensures timer { KeepsTimer sender.old sender.new }
 {
@@ -253,8 +253,8 @@ pub(crate) fn hear_ack<F, R>(
 where
     F: ControllerFactory,
     R: Rng + Drop,
-    ensures goes { Continues (GoesOn (ending (ends_by_ack packet.now.space result))) sender.old
-        sender.new }
+    ensures goes { Continues (GoesOn (ending (endings_by_ack packet.now.space result)))
+        sender.old sender.new }
     ensures honest { NoAccusation packet.now.space packet.now.ranges.items sender.old result }
     ensures within { AcksWithin packet.now.ranges.items result }
     ensures timer { KeepsTimer sender.old sender.new }

@@ -12,4 +12,4 @@ mod steps;
 pub use endpoint::Endpoint;
 pub use pair::{EndConfig, Pair};
 pub use runs::run_over;
-pub use steps::{AckOutcome, End, Fate, LocalStep, PairAnswer, PairStep, WirePacket};
+pub use steps::{AckOutcome, End, Fate, LocalStep, PairAnswer, PairStep, SentAck, WirePacket};

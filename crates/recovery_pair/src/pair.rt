@@ -13,7 +13,7 @@ ghost use Rattle.recovery_pair.specs.Turns.{HearTurn, SendTurn, TurnsAt, local_t
 
 use crate::calls::NO_MEMORY;
 use crate::endpoint::{Endpoint, Outgoing};
-use crate::steps::{End, Fate, LocalStep, PairAnswer, PairStep, WirePacket};
+use crate::steps::{End, Fate, LocalStep, PairAnswer, PairStep, WirePacket, sent_ack};
 use rand_core::Rng;
 use recovery_base::below::{NoMemory, SpaceId};
 use recovery_base::time::Instant;
@@ -219,14 +219,14 @@ where
             Ok(Outgoing::Sent(packet, items, window)) => {
                 let number = packet.number;
                 let eliciting = packet.eliciting;
-                let delay = packet.delay;
+                let ack = sent_ack(&packet);
                 self.wire.push_reserved(packet);
                 Ok(PairAnswer::Sent {
                     number,
                     items,
                     eliciting,
                     window,
-                    delay,
+                    ack,
                 })
             }
             Ok(Outgoing::Nothing) => Ok(PairAnswer::Nothing),

@@ -1,9 +1,10 @@
 //! What may happen next to two ends, and what is answered.
 ghost use Rattle.std.specs.Prelude.{◌≡◌};
-ghost use Rattle.recovery_pair.specs.Logs.{other_end};
+ghost use Rattle.recovery_pair.specs.Logs.{ack_of, other_end};
 
 use recovery_base::below::SpaceId;
 use recovery_base::time::{Duration, Instant};
+use recovery_losses::largest_of;
 use recovery_sender::{Acknowledged, SenderError, Timeout, Transmission};
 
 /// One of the two ends of a connection.
@@ -141,6 +142,25 @@ pub enum Fate {
     },
 }
 
+/// What is reported of the ACK frame of a packet that is sent.
+#[derive(Drop)]
+pub struct SentAck {
+    /// The largest number that it acknowledges. `None` if the packet has no ACK frame.
+    pub largest: Option<u64>,
+    /// Its ACK delay (RFC 9000, 13.2.5).
+    pub delay: Duration,
+}
+
+/// Returns what is reported of the ACK frame of a packet.
+pub(crate) fn sent_ack(packet: &WirePacket) -> SentAck
+    ensures { result ≡ ack_of packet.now }
+{
+    SentAck {
+        largest: largest_of(&packet.ranges),
+        delay: packet.delay,
+    }
+}
+
 /// The answer to a step.
 #[derive(Drop)]
 pub enum PairAnswer {
@@ -163,8 +183,8 @@ pub enum PairAnswer {
         /// The congestion window in bytes for which it was checked. `None` if none was: it does not count in flight, or
         /// a probe was due in its space (RFC 9002, 7 and 7.5).
         window: Option<u64>,
-        /// The ACK delay of its ACK frame, if it has one (RFC 9000, 13.2.5).
-        delay: Duration,
+        /// Its ACK frame.
+        ack: SentAck,
     },
     /// A packet arrived.
     Arrived {

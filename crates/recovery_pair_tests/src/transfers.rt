@@ -237,12 +237,13 @@ fn probes(rt: HostRuntime) {
     assert!(rt; is_right, "a transfer with a probe");
 }
 
-/// What a test sees of a packet that was sent: whether it is ack-eliciting, the window for which it was checked, and
-/// its ACK delay in milliseconds.
+/// What a test sees of a packet that was sent: whether it is ack-eliciting, the window for which it was checked, the
+/// largest number of its ACK frame, if it has one, and its ACK delay in milliseconds.
 #[derive(Clone, Copy, PartialEq, Eq)]
 struct Checked {
     eliciting: bool,
     window: Option<u64>,
+    largest: Option<u64>,
     delay: u128,
 }
 
@@ -252,13 +253,14 @@ fn checked_of(answer: &Result<PairAnswer, SenderError>) -> Option<Checked> {
             PairAnswer::Sent {
                 eliciting,
                 window,
-                delay,
+                ack,
                 ..
             },
         ) => Some(Checked {
             eliciting: *eliciting,
             window: *window,
-            delay: delay.as_nanos() / 1_000_000,
+            largest: ack.largest,
+            delay: ack.delay.as_nanos() / 1_000_000,
         }),
         _ => None,
     }
@@ -286,16 +288,19 @@ fn says_what_was_checked(rt: HostRuntime) {
         Checked {
             eliciting: true,
             window: Some(12_000),
+            largest: None,
             delay: 0,
         },
         Checked {
             eliciting: true,
             window: None,
+            largest: None,
             delay: 0,
         },
         Checked {
             eliciting: false,
             window: None,
+            largest: Some(1),
             delay: 25,
         },
     ];

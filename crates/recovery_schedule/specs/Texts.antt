@@ -90,7 +90,8 @@ abbrev pub arrived_text : End → SpaceId → ℕ → List ℕ
 arrived_text to space number =
     codes "arrived " ++ end_text to ++ codes " " ++ space_word space ++ codes " " ++ decimal number
 
--- whether a packet is not ack-eliciting, the window for which it was checked, and its ACK delay
+-- whether a packet is not ack-eliciting, the window for which it was checked, the largest number of its ACK frame, if
+-- it has one, and its ACK delay
 abbrev pub only_text : Bool → List ℕ
 only_text true = []
 only_text false = codes " ack-only"
@@ -99,17 +100,22 @@ abbrev pub window_text : Option ℕ → List ℕ
 window_text None = []
 window_text (Some bytes) = codes " window " ++ decimal bytes
 
-abbrev pub limits_text : Bool → Option ℕ → ℕ → List ℕ
-limits_text eliciting window delay =
-    only_text eliciting ++ window_text window ++ codes " delay " ++ decimal delay
+abbrev pub largest_text : Option ℕ → List ℕ
+largest_text None = []
+largest_text (Some number) = codes " largest " ++ decimal number
+
+abbrev pub limits_text : Bool → Option ℕ → Option ℕ → ℕ → List ℕ
+limits_text eliciting window largest delay =
+    only_text eliciting ++ window_text window ++ largest_text largest ++ codes " delay " ++ decimal delay
 
 abbrev pub answer_text : Result PairAnswer SenderError → List ℕ
 answer_text (Ok Done) = codes "done"
 answer_text (Ok Nothing) = codes "nothing"
 answer_text (Ok (Held held)) = held_text held
 answer_text (Ok (Failed error)) = codes "failed " ++ error_text error
-answer_text (Ok (Sent number items eliciting window delay)) =
-    codes "sent " ++ decimal number ++ items_text items.items ++ limits_text eliciting window delay
+answer_text (Ok (Sent number items eliciting window ack)) =
+    codes "sent " ++ decimal number ++ items_text items.items
+    ++ limits_text eliciting window ack.largest ack.delay
 answer_text (Ok (Arrived to space number size fate)) = arrived_text to space number ++ fate_text fate
 answer_text (Ok (Expired due)) = expired_text due
 answer_text (Err error) = error_text error

@@ -172,20 +172,26 @@ fn push_arrived(text: &mut String, to: End, space: SpaceId, number: u64) -> Resu
     push_number(text, " ", number)
 }
 
-/// Appends whether a packet is not ack-eliciting, the window for which it was checked, and its ACK delay.
+/// Appends whether a packet is not ack-eliciting, the window for which it was checked, the largest number of its ACK
+/// frame, if it has one, and its ACK delay.
 fn push_limits(
     text: &mut String,
     eliciting: bool,
     window: Option<u64>,
+    largest: Option<u64>,
     delay: Duration,
 ) -> Result<(), AllocError>
-    ensures { OnOk result (Extends text.old (limits_text eliciting window delay) text.new) }
+    ensures { OnOk result
+        (Extends text.old (limits_text eliciting window largest delay) text.new) }
 {
     if !eliciting {
         text.push_str(" ack-only")?;
     }
     if let Some(bytes) = window {
         push_number(text, " window ", bytes)?;
+    }
+    if let Some(number) = largest {
+        push_number(text, " largest ", number)?;
     }
     push_delay(text, delay)
 }
@@ -214,11 +220,11 @@ fn push_said(text: &mut String, answer: &PairAnswer) -> Result<(), AllocError>
             items,
             eliciting,
             window,
-            delay,
+            ack,
         } => {
             push_number(text, "sent ", *number)?;
             push_numbers(text, "", items)?;
-            push_limits(text, *eliciting, *window, *delay)
+            push_limits(text, *eliciting, *window, ack.largest, ack.delay)
         }
         PairAnswer::Arrived {
             to,

@@ -19,6 +19,6 @@ largest_new end space ((Arrive at now, Ok (Arrived to there number size (New ite
 largest_new end space (event ∷ earlier) = largest_new end space earlier
 
 abbrev pub ReportsDelay : PairLog → PairEvent → Type 0
-ReportsDelay log (Send end space now size, Ok (Sent number items eliciting window delay)) =
-    delay ≡ delay_at now (largest_new end space log)
+ReportsDelay log (Send end space now size, Ok (Sent number items eliciting window ack)) =
+    ack.delay ≡ delay_at now (largest_new end space log)
 ReportsDelay log event = Unit {0}

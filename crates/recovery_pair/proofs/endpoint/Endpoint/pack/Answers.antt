@@ -1,4 +1,6 @@
-use Rattle.std.proofs.Common.{refl, sym}
+use Rattle.std.proofs.Common.{ℕ, Option, refl, ap, subst, ◌∙◌}
+use Rattle.recovery_losses.specs.Frames.{largest_of}
+use Rattle.recovery_pair.specs.Pasts.{Continues, SendsNumber}
 use Rattle.recovery_pair.specs.Flights.{counted_if}
 use Rattle.recovery_pair.proofs.QuietLaws.{quietly_then}
 use Rattle.recovery_pair.proofs.TurnLaws.{quietly_sends, sends_quietly}
@@ -18,10 +20,13 @@ returns-in-Ok-track-clause-goes g c =
       elicits = refl;
       window_is = refl;
       goes = quietly_sends (counted_if c.args.eliciting c.args.size) c.args.space c.in-Ok-track.number
-          c.args.self.now.sender c.take_items.new.self.sender
+          (largest_of c.args.ack.ranges.items) c.args.self.now.sender c.take_items.new.self.sender
           c.end_acks.new.self.sender c.in-Ok.ensures.goes (sends_quietly (counted_if c.args.eliciting c.args.size)
-          c.args.space c.in-Ok-track.number
-          c.take_items.new.self.sender c.track.new.sender c.end_acks.new.self.sender c.in-Ok-track.ensures.goes
+          c.args.space c.in-Ok-track.number (largest_of c.args.ack.ranges.items) c.take_items.new.self.sender
+          c.track.new.sender c.end_acks.new.self.sender
+          (subst (λ (largest : Option ℕ). Continues (SendsNumber 0 (counted_if c.args.eliciting c.args.size)
+          c.args.space c.in-Ok-track.number largest) c.take_items.new.self.sender c.track.new.sender)
+          (c.largest_of-largest.ensures ∙ ap largest_of c.deref.ensures.value) c.in-Ok-track.ensures.goes)
           c.end_acks.ensures.goes);
     }
 

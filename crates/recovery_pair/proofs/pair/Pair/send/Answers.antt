@@ -4,6 +4,7 @@ use Rattle.recovery_sender.specs.declared.sender.SenderError.TheVariants.{Event}
 use Rattle.recovery_pair.specs.declared.steps.PairAnswer.TheVariants.{Failed, Held, Nothing, Sent}
 use Rattle.recovery_pair.specs.declared.steps.PairStep.TheVariants.{Send}
 use Rattle.recovery_pair.specs.declared.endpoint.Outgoing.TheVariants as outgoing
+use Rattle.recovery_pair.specs.Logs.{ack_of}
 use Rattle.recovery_pair.proofs.PermitLaws.{permits_at, permits_none}
 use Rattle.recovery_pair.proofs.QueueLaws.{nothing_queue, same_queue, sent_queue, step_keeps, still_queue}
 use Rattle.recovery_pair.proofs.StepTies.{held_turn, idle_step, send_turn}
@@ -11,23 +12,23 @@ use Rattle.recovery_pair.proofs.TimedLaws.{timers_at}
 use Rattle.recovery_pair.proofs.pair.Pair.send.Goals as goal
 
 pub returns-in-Ok-Sent-clause-keeps : goal.returns-in-Ok-Sent-clause-keeps
-returns-in-Ok-Sent-clause-keeps g c = step_keeps c.args.self.now.client.sender c.args.self.now.server.sender
-    c.send_from.new.client.sender
+returns-in-Ok-Sent-clause-keeps g c = rw c.sent_ack-ack.ensures (step_keeps c.args.self.now.client.sender
+    c.args.self.now.server.sender c.send_from.new.client.sender
     c.send_from.new.server.sender c.args.self.now.wire.items c.push_reserved.new.self.items
     c.args.self.now.client.waiting.items
     c.args.self.now.server.waiting.items c.send_from.new.client.waiting.items c.send_from.new.server.waiting.items
     (Send c.args.end c.args.space c.args.now c.args.size) (Ok (Sent c.in-Ok-Sent.packet.number c.in-Ok-Sent.items
-    c.in-Ok-Sent.packet.eliciting c.in-Ok-Sent.window c.in-Ok-Sent.packet.delay))
+    c.in-Ok-Sent.packet.eliciting c.in-Ok-Sent.window (ack_of c.in-Ok-Sent.packet)))
     (send_turn c.args.end c.args.space c.args.now c.args.size c.in-Ok-Sent.packet c.in-Ok-Sent.items c.in-Ok-Sent.window
     c.args.self.now.client.sender c.args.self.now.server.sender c.send_from.new.client.sender
     c.send_from.new.server.sender c.args.self.now.wire.items c.push_reserved.new.self.items
     (rw c.in-Ok.ensures.items at c.push_reserved.ensures.items)
     (rw c.in-Ok-Sent.field-0-is at c.in-Ok-Sent.ensures.goes))
     tt (sent_queue c.args.end c.args.space c.args.now c.args.size c.in-Ok-Sent.packet.number c.in-Ok-Sent.items
-    c.in-Ok-Sent.packet.eliciting c.in-Ok-Sent.window c.in-Ok-Sent.packet.delay
+    c.in-Ok-Sent.packet.eliciting c.in-Ok-Sent.window (ack_of c.in-Ok-Sent.packet)
     c.args.self.now.client.waiting.items
     c.args.self.now.server.waiting.items c.send_from.new.client.waiting.items c.send_from.new.server.waiting.items
-    (rw c.in-Ok-Sent.field-0-is at c.in-Ok-Sent.ensures.waits))
+    (rw c.in-Ok-Sent.field-0-is at c.in-Ok-Sent.ensures.waits)))
 
 pub returns-in-Ok-Nothing-clause-keeps : goal.returns-in-Ok-Nothing-clause-keeps
 returns-in-Ok-Nothing-clause-keeps g c = step_keeps c.args.self.now.client.sender c.args.self.now.server.sender
@@ -114,7 +115,7 @@ returns-in-Err-clause-keeps g c = step_keeps c.args.self.now.client.sender c.arg
 pub returns-in-Ok-Sent-clause-permits : goal.returns-in-Ok-Sent-clause-permits
 returns-in-Ok-Sent-clause-permits g c = permits_at c.args.end c.args.space c.args.now c.args.size
     (Ok (outgoing.Sent c.in-Ok-Sent.packet c.in-Ok-Sent.items c.in-Ok-Sent.window)) (Ok (Sent c.in-Ok-Sent.packet.number
-    c.in-Ok-Sent.items c.in-Ok-Sent.packet.eliciting c.in-Ok-Sent.window c.in-Ok-Sent.packet.delay))
+    c.in-Ok-Sent.items c.in-Ok-Sent.packet.eliciting c.in-Ok-Sent.window c.sent_ack-ack.result))
     c.args.self.now.client.sender c.args.self.now.server.sender (λ Idle in_flight checked said agrees. agrees)
     (rw c.in-Ok-Sent.field-0-is at c.in-Ok-Sent.ensures.permits)
 
