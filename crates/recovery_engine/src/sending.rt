@@ -165,6 +165,7 @@ fn no_outcome(alloc: Global) -> LastOutcome
         numbers: Vec::new(alloc),
         losses: lost_alone(none),
         ecn: EcnOutcome::Quiet,
+        rtt: None,
     };
     LastOutcome {
         acked,

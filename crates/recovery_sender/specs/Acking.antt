@@ -159,6 +159,7 @@ pub record Acknowledges {F Q R C K S M P : Type 0} {f : _} {c : _} {q : _} {m : 
       (largest_in (state_in taken) space)) ∷ []) taken ended
   -- the RTT is sampled, losses are detected, and the ECN counts compared
   pub samples : SamplesRtt space ack.delay ended sampled (rtt_of (state_in old) space now ranges elicits)
+  pub rtt : acked.rtt ≡ rtt_of (state_in old) space now ranges elicits
   pub detects : DetectsLosses space now true sampled acked.losses looked
   pub compares : EcnResult space now (length acked.numbers.items) looked heard
       (marks_now (state_in looked)).sending_ecn ack.ecn
@@ -206,6 +207,7 @@ module _ {F Q R C K S M P : Type 0} {f : _} {c : _} {q : _} {m : _} {r : _} (spa
   pub record HasNoneNewlyAcked (acked : Acknowledged) : Type 0 where
     pub lost : IsEmptyLosses acked.losses
     pub ecn : acked.ecn ≡ Quiet
+    pub rtt : acked.rtt ≡ None
     pub does : CompletesCall [] old.variables old new
 
   -- the frame is valid, and what it newly acknowledges is returned, if anything

@@ -51,6 +51,8 @@ pub struct Acknowledged {
     pub losses: Losses,
     /// The outcome of its ECN counts.
     pub ecn: EcnOutcome,
+    /// The RTT sample that was taken, if any (RFC 9002, 5.1).
+    pub rtt: Option<Duration>,
 }
 
 /// What a frame newly acknowledges, before any change.
@@ -266,6 +268,7 @@ where
                 numbers: newly.numbers,
                 losses: Losses::none(self.alloc),
                 ecn: EcnOutcome::Quiet,
+                rtt: None,
             };
         }
         self.acknowledge(space, now, ranges, ack, newly)
@@ -588,6 +591,7 @@ where
             numbers,
             losses,
             ecn,
+            rtt,
         }
     }
 

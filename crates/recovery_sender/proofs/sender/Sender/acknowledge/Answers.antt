@@ -25,6 +25,7 @@ returns-clause-stages g c = record {
   acks = rw (← c.deref.ensures.value, ← c.is_limited-is_limited.ensures) c.tell_acked.ensures.acks;
   ends = rw (← c.is_limited-is_limited.ensures) c.end_acks.ensures;
   samples = rw (← c.rtt_of-rtt.ensures) c.sample.ensures;
+  rtt = c.rtt_of-rtt.ensures;
   detects = c.detect_and_remove_lost_packets-losses.ensures;
   compares = rw (
     ← c.args.newly.numbers.ok.0,

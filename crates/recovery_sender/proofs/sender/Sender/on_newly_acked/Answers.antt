@@ -5,7 +5,7 @@ use Rattle.recovery_sender.proofs.sender.Sender.on_newly_acked.Goals as goal
 pub returns-then-is_empty : goal.returns-then-is_empty
 returns-then-is_empty g c = record {
   numbers = refl;
-  none = λ none. record { lost = c.none.ensures; ecn = refl; does = c.set_loss_detection_timer.ensures };
+  none = λ none. record { lost = c.none.ensures; ecn = refl; rtt = refl; does = c.set_loss_detection_timer.ensures };
   some = λ some. absurd (some (none_left c.args.newly.numbers c.if-is_empty.ensures));
 }
 
