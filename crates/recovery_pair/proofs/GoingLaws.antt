@@ -26,10 +26,11 @@ use Rattle.recovery_history.specs.Promises.Increasing.{NumbersIncrease}
 use Rattle.recovery_history.specs.Promises.Paths.{generations}
 use Rattle.recovery_history.specs.Promises.Tracked.{goes_out, leaves}
 use Rattle.recovery_history.proofs.TrackedLaws.{one_space}
+use Rattle.recovery_sender.specs.Promises.Lost.{sent_at}
 use Rattle.recovery_sender.specs.declared.sender.SenderError.{SenderError}
 use Rattle.recovery_sender.specs.declared.sender.SenderError.TheVariants as refused
 use Rattle.recovery_pair.specs.Flights.{Numbers, counted_if, no_numbers}
-use Rattle.recovery_pair.specs.Pasts.{AcksBelow, Came, EndTurn, Endings, GoesOn, GoesOnQuietly, HearsNumber, IsHeardBy, KeepsLargest, SendsNumber, WasSentUnder, added, arriving, bytes_received, bytes_transmitted, discarding, ending, flight_in, hearing, is_of, largest_came, leaving, no_endings, packet_leaving, quiet, validating, with_carried, with_largest, with_number}
+use Rattle.recovery_pair.specs.Pasts.{AcksBelow, Came, EndTurn, Endings, GoesOn, GoesOnQuietly, HearsNumber, IsHeardBy, KeepsLargest, SendsNumber, WasSentUnder, added, arriving, bytes_received, bytes_transmitted, discarding, ending, flight_in, hearing, is_of, largest_came, leaving, no_endings, packet_leaving, quiet, validating, with_carried, with_largest, with_number, with_time}
 use Rattle.recovery_pair.proofs.FlightLaws.{flight_event, flight_less, gone_again, or_gone, sent_leaves, zero_more}
 use Rattle.recovery_pair.proofs.TopLaws.{acked_top, received_top}
 
@@ -169,6 +170,13 @@ module _ {Q S M P : Type 0} (past : History Q S M P) where
   carried_before ends (PollMtu now) reply is space n = absurd is
   carried_before ends event reply is space n = refl
 
+  time_before : (ends : Endings) (event : Event Q S M P) (reply : Reply Q) → IsEndingEvent ends event reply
+      → (space : SpaceId) (n : ℕ) → sent_at space ((event, reply) ∷ past) n ≡ sent_at space past n
+  time_before ends (Send there now size eliciting largest queue frames) (Ok answer) is space n = absurd is
+  time_before ends (Send there now size eliciting largest queue frames) (Err refusal) is space n = refl
+  time_before ends (PollMtu now) reply is space n = absurd is
+  time_before ends event reply is space n = refl
+
   top_before : (ends : Endings) (event : Event Q S M P) (reply : Reply Q) → IsEndingEvent ends event reply
       → (space : SpaceId) → AcksBelow ends.acked space past ((event, reply) ∷ past) → KeepsLargest space past
       → KeepsLargest space ((event, reply) ∷ past)
@@ -221,10 +229,12 @@ module _ {Q S M P : Type 0} where
       + flight_in (λ space n. turn.ends space n || gone space n) past ≤ flight_in gone after)
       → ((space : SpaceId) (n : ℕ) → largest_in space n after
       ≡ with_carried space n turn.carries (largest_in space n past))
+      → ((space : SpaceId) (n : ℕ) → sent_at space after n ≡ with_time space n turn.sends (sent_at space past n))
       → ((space : SpaceId) → AcksBelow turn.acks space past after → KeepsLargest space past
       → KeepsLargest space after)
       → GoesOn turn past after)
-  event_on turn past event reply came heard arrived left discarded validated largest flight carried topped = record {
+  event_on turn past event reply came heard arrived left discarded validated largest flight carried timed topped =
+      record {
     given = λ space n. given_on past space n event reply;
     came = came;
     heard = heard;
@@ -235,6 +245,7 @@ module _ {Q S M P : Type 0} where
     largest = largest;
     flight = flight;
     carried = carried;
+    timed = timed;
     topped = topped;
   }
 
@@ -251,6 +262,7 @@ module _ {Q S M P : Type 0} where
     flight = λ gone. zero_more _ _ (flight_less (λ space n. ends.gone space n || gone space n) gone past
         (λ space n is. or_gone (ends.gone space n) (gone space n) is));
     carried = λ space n. refl;
+    timed = λ space n. refl;
     topped = λ space below keeps. keeps;
   }
 
@@ -273,7 +285,8 @@ module _ {Q S M P : Type 0} where
       (λ space. largest_before past space event reply calm)
       (flight_event past event reply None ends.gone (generation_before past event reply calm) (λ gone. omega arith)
       (λ space n leave. inl (ends_by past ends event reply is space n leave)))
-      (carried_before past ends event reply is) (top_before past ends event reply is)
+      (carried_before past ends event reply is) (time_before past ends event reply is)
+      (top_before past ends event reply is)
 
 -- ---- one turn after another
 
@@ -305,6 +318,8 @@ pub record Follows (one two turn : EndTurn) : Type 0 where
   pub carried : (space : SpaceId) (n : ℕ) (before : Option ℕ)
       → with_carried space n two.carries (with_carried space n one.carries before)
       ≡ with_carried space n turn.carries before
+  pub timed : (space : SpaceId) (n : ℕ) (before : ℕ)
+      → with_time space n two.sends (with_time space n one.sends before) ≡ with_time space n turn.sends before
 
 unheard_same : (space : SpaceId) (heard : Option (SpaceId × ℕ)) (now : ℕ) (before : Option (ℕ × ℕ)) → heard ≡ None
     → with_largest space heard now before ≡ before
@@ -374,6 +389,8 @@ module _ {Q S M P : Type 0} (one two turn : EndTurn) (past between after : Histo
     carried = λ space n. second.carried space n
         ∙ ap (with_carried space n two.carries) (first.carried space n)
         ∙ follows.carried space n (largest_in space n past);
+    timed = λ space n. second.timed space n ∙ ap (with_time space n two.sends) (first.timed space n)
+        ∙ follows.timed space n (sent_at space past n);
     topped = λ space below keeps. second.topped space (below_second space below)
         (first.topped space (below_first space below) keeps);
   }
@@ -416,6 +433,7 @@ module _ {Q S M P : Type 0} (arrives leaves : ℕ) (ends : Endings) (turn : EndT
         largest = λ space before. refl;
         counted = λ gone. none_last (added turn.counts gone);
         carried = λ space n before. refl;
+        timed = λ space n before. refl;
       })
     where
       heard : (space : SpaceId) (n : ℕ) → (quiet.heard ≡ Some (space, n)) ⊎ (turn.heard ≡ Some (space, n))
@@ -438,6 +456,7 @@ module _ {Q S M P : Type 0} (arrives leaves : ℕ) (ends : Endings) (turn : EndT
         largest = λ space before. refl;
         counted = counted;
         carried = λ space n before. refl;
+        timed = λ space n before. refl;
       })
     where
       heard : (space : SpaceId) (n : ℕ) → (turn.heard ≡ Some (space, n)) ⊎ (quiet.heard ≡ Some (space, n))
@@ -509,12 +528,12 @@ module _ {Q S M P : Type 0} where
       → HaveOneOutcome ((Send space now size eliciting largest queue frames, Ok (Sent n forgotten)) ∷ past)
       → ForgetsOldestNonEliciting past (Send space now size eliciting largest queue frames) (Ok (Sent n forgotten))
       → (same_space space space && n == n) ≡ true
-      → SendsNumber 0 (counted_if eliciting size) space n largest past
+      → SendsNumber 0 (counted_if eliciting size) space n largest now past
       ((Send space now size eliciting largest queue frames, Ok (Sent n forgotten)) ∷ past)
   sends_event past space now size eliciting largest queue frames n forgotten increase once forgets goes =
       let event : Event Q S M P = Send space now size eliciting largest queue frames in
       let reply : Reply Q = Ok (Sent n forgotten) in record {
-        goes = event_on (packet_leaving 0 (counted_if eliciting size) space n largest) past event reply
+        goes = event_on (packet_leaving 0 (counted_if eliciting size) space n largest now) past event reply
             (λ there. refl) (λ there m was. inl was) (no_more (bytes_received past) (bytes_received past) refl)
             (no_less (bytes_transmitted past) (bytes_transmitted past) refl) (λ there. refl) (λ first. refl)
             (λ there. refl)
@@ -522,7 +541,7 @@ module _ {Q S M P : Type 0} where
             (λ gone. omega arith)
             (λ there m leave. inr (sent_leaves past space now size eliciting largest queue frames n forgotten once
             forgets there m leave)))
-            (λ there m. refl) (λ there below keeps. keeps);
+            (λ there m. refl) (λ there m. refl) (λ there below keeps. keeps);
         unused = λ some. (let none = (increase space n goes).1 n (omega arith) in absurd (omega (arith, none, some)));
         above = λ k some. (elim (cases_lt k n) [
           | inl below ↦ below
@@ -532,22 +551,23 @@ module _ {Q S M P : Type 0} where
         small = (increase space n goes).0;
       }
 
-  module _ (size counted : ℕ) (space : SpaceId) (n : ℕ) (largest : Option ℕ) (past between after : History Q S M P)
+  module _ (size counted : ℕ) (space : SpaceId) (n : ℕ) (largest : Option ℕ) (now : ℕ)
+      (past between after : History Q S M P)
     where
-      pub quiet_then_sends : GoesOnQuietly past between → SendsNumber size counted space n largest between after
-          → SendsNumber size counted space n largest past after
+      pub quiet_then_sends : GoesOnQuietly past between → SendsNumber size counted space n largest now between after
+          → SendsNumber size counted space n largest now past after
       quiet_then_sends first second = record {
-        goes = quiet_then (packet_leaving size counted space n largest) past between after first second.goes;
+        goes = quiet_then (packet_leaving size counted space n largest now) past between after first second.goes;
         unused = λ some. second.unused (first.given space n some);
         above = λ k some. second.above k (first.given space k some);
         used = second.used;
         small = second.small;
       }
 
-      pub sends_then_quiet : SendsNumber size counted space n largest past between → GoesOnQuietly between after
-          → SendsNumber size counted space n largest past after
+      pub sends_then_quiet : SendsNumber size counted space n largest now past between → GoesOnQuietly between after
+          → SendsNumber size counted space n largest now past after
       sends_then_quiet first second = record {
-        goes = then_quiet (packet_leaving size counted space n largest) past between after first.goes second;
+        goes = then_quiet (packet_leaving size counted space n largest now) past between after first.goes second;
         unused = first.unused;
         above = first.above;
         used = second.given space n first.used;
@@ -555,10 +575,12 @@ module _ {Q S M P : Type 0} where
       }
 
       -- its datagram was transmitted before
-      pub leaves_then_sends : GoesOn (leaving size) past between → SendsNumber 0 counted space n largest between after
-          → SendsNumber size counted space n largest past after
+      pub leaves_then_sends : GoesOn (leaving size)
+          past between → SendsNumber 0 counted space n largest now between after
+          → SendsNumber size counted space n largest now past after
       leaves_then_sends first second = record {
-        goes = plain_then 0 size no_endings (packet_leaving 0 counted space n largest) 0 size no_endings past between
+        goes = plain_then 0 size no_endings (packet_leaving 0 counted space n largest now) 0 size no_endings
+            past between
             after (record {
               arrives = none_first 0;
               leaves = none_first size;
@@ -655,7 +677,8 @@ module _ {Q S M P : Type 0} (past : History Q S M P) (space : SpaceId) (now n : 
         (λ there. refl)
         (flight_event past (Received space now n eliciting) (Ok (New arm)) None no_numbers refl (λ gone. omega arith)
         (λ there m leave. no_acks leave))
-        (λ there m. refl) (λ there below keeps. received_top past there keeps space now n eliciting arm);
+        (λ there m. refl) (λ there m. refl)
+        (λ there below keeps. received_top past there keeps space now n eliciting arm);
     by = heard_new Q (is_discarded space past) (nat_le number_limit n) (is_new (came_in space past) n) arm detects;
   }
 
@@ -686,7 +709,7 @@ module _ {Q S M P : Type 0} (past : History Q S M P) (space : SpaceId) (now n : 
         (λ there. not_largest there answer other)
         (flight_event past (Received space now n eliciting) (Ok answer) None no_numbers refl (λ gone. omega arith)
         (λ there m leave. no_acks leave))
-        (λ there m. refl) (λ there below keeps. not_dropped there answer other keeps);
+        (λ there m. refl) (λ there m. refl) (λ there below keeps. not_dropped there answer other keeps);
     by = heard_again Q (is_discarded space past) (nat_le number_limit n) (is_new (came_in space past) n) answer other
         detects;
   }
@@ -703,7 +726,7 @@ module _ {Q S M P : Type 0} (past : History Q S M P) (space : SpaceId) (now n : 
         (λ there. refl)
         (flight_event past (Received space now n eliciting) (Err refusal) None no_numbers refl (λ gone. omega arith)
         (λ there m leave. no_acks leave))
-        (λ there m. refl) (λ there below keeps. keeps);
+        (λ there m. refl) (λ there m. refl) (λ there below keeps. keeps);
     by = heard_refused Q (is_discarded space past) (nat_le number_limit n) (is_new (came_in space past) n) refusal
         detects;
   }
@@ -720,7 +743,7 @@ module _ {Q S M P : Type 0} (past : History Q S M P) where
       (λ space. refl) (λ first. refl) (λ space. refl)
       (flight_event past (DatagramIn Current bytes) (Ok answer) None no_numbers refl (λ gone. omega arith)
       (λ there m leave. no_acks leave))
-      (λ space n. refl) (λ space below keeps. keeps)
+      (λ space n. refl) (λ space n. refl) (λ space below keeps. keeps)
 
   pub leaves_event : (now bytes : ℕ) (checked : Bool)
       → GoesOn (leaving bytes) past ((Transmit now bytes checked, Ok Transmitted) ∷ past)
@@ -732,7 +755,7 @@ module _ {Q S M P : Type 0} (past : History Q S M P) where
       (λ space. refl) (λ first. refl) (λ space. refl)
       (flight_event past (Transmit now bytes checked) (Ok Transmitted) None no_numbers refl (λ gone. omega arith)
       (λ there m leave. no_acks leave))
-      (λ space n. refl) (λ space below keeps. keeps)
+      (λ space n. refl) (λ space n. refl) (λ space below keeps. keeps)
 
   pub delayed_event : (now bytes until : ℕ) (checked : Bool)
       → GoesOnQuietly past ((Transmit now bytes checked, Ok (Delayed until)) ∷ past)
@@ -742,7 +765,7 @@ module _ {Q S M P : Type 0} (past : History Q S M P) where
       (λ space. refl) (λ first. refl) (λ space. refl)
       (flight_event past (Transmit now bytes checked) (Ok (Delayed until)) None no_numbers refl (λ gone. omega arith)
       (λ there m leave. no_acks leave))
-      (λ space n. refl) (λ space below keeps. keeps)
+      (λ space n. refl) (λ space n. refl) (λ space below keeps. keeps)
 
   pub discards_event : (space : SpaceId) (answer : Answer Q)
       → GoesOn (discarding space) past ((DiscardSpace space, Ok answer) ∷ past)
@@ -752,7 +775,7 @@ module _ {Q S M P : Type 0} (past : History Q S M P) where
       (λ there. refl) (λ first. refl) (λ there. refl)
       (flight_event past (DiscardSpace space) (Ok answer) None (λ there n. same_space space there) refl
       (λ gone. omega arith) (λ there m leave. inl leave))
-      (λ there n. refl) (λ there below keeps. keeps)
+      (λ there n. refl) (λ there n. refl) (λ there below keeps. keeps)
 
   pub validates_event : (answer : Answer Q) → GoesOn validating past ((Validated Current, Ok answer) ∷ past)
   validates_event answer = event_on validating past (Validated Current) (Ok answer) (λ space. refl)
@@ -761,4 +784,4 @@ module _ {Q S M P : Type 0} (past : History Q S M P) where
       (λ space. refl) (λ first. refl) (λ space. refl)
       (flight_event past (Validated Current) (Ok answer) None no_numbers refl (λ gone. omega arith)
       (λ there m leave. no_acks leave))
-      (λ space n. refl) (λ space below keeps. keeps)
+      (λ space n. refl) (λ space n. refl) (λ space below keeps. keeps)

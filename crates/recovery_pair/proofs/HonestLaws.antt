@@ -1,5 +1,5 @@
 -- An ACK frame of numbers that were all sent is not refused for what it says.
-use Rattle.std.proofs.Common.{◌≡◌, ℕ, ◌<◌, ◌≤◌, ◌⊎◌, zero, suc, inl, inr, true, false, true≢false, List, [], ◌∷◌, length, get_or, None, Ok, Err, refl, sym, ap, subst, ◌∙◌, arith}
+use Rattle.std.proofs.Common.{◌≡◌, ℕ, ◌<◌, ◌≤◌, ◌⊎◌, zero, suc, inl, inr, true, false, true≢false, List, [], ◌∷◌, length, get_or, Option, None, Some, IfSome, Ok, Err, refl, sym, ap, subst, ◌∙◌, arith}
 use Rattle.std.specs.Global.{Vec}
 use Rattle.std.specs.Prelude.{◌==◌}
 use Rattle.std.proofs.lemmas.Bool.{cases_lt}
@@ -30,6 +30,8 @@ use Rattle.recovery_history.proofs.TrackedLaws.{sent_in}
 use Rattle.quic_recovery.specs.State.{ReadOnlyTransition}
 use Rattle.recovery_sender.specs.Acking.{AckResult}
 use Rattle.recovery_sender.specs.Acks.{AckChecked, WereSent}
+use Rattle.recovery_sender.specs.Promises.Lost.{sent_at}
+use Rattle.recovery_sender.specs.Promises.RttSampled.{SamplesByPast}
 use Rattle.recovery_sender.specs.Senders.{state_in}
 use Rattle.recovery_sender.specs.declared.sender.Sender.{Sender}
 use Rattle.recovery_sender.specs.declared.sender.SenderError.{SenderError}
@@ -38,7 +40,7 @@ use Rattle.recovery_losses.specs.declared.frames.Ack.{Ack}
 use Rattle.recovery_sender.specs.declared.sender.acks.Acknowledged.{Acknowledged}
 use Rattle.recovery_pair.specs.declared.steps.AckOutcome.TheVariants.{Refused, Taken}
 use Rattle.recovery_pair.specs.Frames.{IsSoundFrame}
-use Rattle.recovery_pair.specs.Pasts.{AcksWithin, NoAccusation, WasSentUnder, WereSentUnder}
+use Rattle.recovery_pair.specs.Pasts.{AcksWithin, IsSince, NoAccusation, SampledBy, WasSentUnder, WereSentUnder}
 use Rattle.recovery_pair.specs.Promises.NeverAccused.{IsSpared}
 
 -- ---- numbers in ranges
@@ -149,6 +151,21 @@ module _ {F Q R C K S M P : Type 0} {f : _} {c : _} {q : _} {m : _} {r : _} (spa
   pub taken_within : (acked : Acknowledged) → AckResult space now ranges ack old new (Ok acked)
       → AcksWithin ranges (Taken acked)
   taken_within acked is n there = ((is.newly.each n).0 there).0
+
+  pub taken_sampled : (acked : Acknowledged) → AckResult space now ranges ack old new (Ok acked)
+      → SampledBy space now ranges old (Taken acked)
+  taken_sampled acked is config start random past came =
+      by acked.rtt (is.sampled config start random past came)
+    where
+      by : (rtt : Option ℕ) → SamplesByPast space now ranges acked.numbers.items rtt past
+          → IfSome rtt (IsSince (sent_at space past) now ranges acked.numbers.items)
+      by None sampled = tt
+      by (Some rtt) sampled = record {
+        largest = sampled.largest;
+        is_largest = sampled.is_largest;
+        newly = sampled.newly;
+        since = sampled.since;
+      }
 
 pub some_items : {T : Type 0} (all : Vec T) → false ≡ (all.len == 0) → all.items ≡ [] → ⊥
 some_items {T} all some none = let length_is = all.ok.0 in

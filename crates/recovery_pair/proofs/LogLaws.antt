@@ -18,9 +18,9 @@ use Rattle.recovery_pair.specs.declared.steps.PairAnswer.TheVariants.{Arrived, D
 use Rattle.recovery_pair.specs.declared.steps.PairStep.{PairStep}
 use Rattle.recovery_pair.specs.declared.steps.SentAck.{SentAck}
 use Rattle.recovery_pair.specs.declared.steps.PairStep.TheVariants.{Arrive, Local, Send}
-use Rattle.recovery_pair.specs.Logs.{PairEvent, PairLog, bytes_arrived, bytes_sent, has_validated, numbers_at, other_end, was_discarded}
+use Rattle.recovery_pair.specs.Logs.{PairEvent, PairLog, bytes_arrived, bytes_sent, has_validated, numbers_at, other_end, time_sent, was_discarded}
 use Rattle.recovery_pair.specs.Flights.{Numbers, counted_if, ends_by_timer, flight_of, no_numbers as none_gone}
-use Rattle.recovery_pair.specs.Pasts.{GoesOn, EndTurn, added, ending, endings_by_fate, hearing, is_of, losing, new_by, packet_leaving, quiet, with_largest, with_number}
+use Rattle.recovery_pair.specs.Pasts.{GoesOn, EndTurn, added, ending, endings_by_fate, hearing, is_of, losing, new_by, packet_leaving, quiet, with_largest, with_number, with_time}
 use Rattle.recovery_pair.specs.Promises.Delays.{largest_new}
 use Rattle.recovery_pair.specs.Tied.{IsLogged, validated_first}
 use Rattle.recovery_pair.specs.Turns.{local_turn, reply_of}
@@ -42,6 +42,8 @@ pub record Adds (turn : EndTurn) (end : End) (event : PairEvent) (log : PairLog)
   pub left : bytes_sent end (event ∷ log) ≤ turn.leaves + bytes_sent end log
   pub largest : (space : SpaceId) → largest_new end space (event ∷ log)
       ≡ with_largest space turn.heard turn.at (largest_new end space log)
+  pub times : (space : SpaceId) (n : ℕ) → time_sent end space n (event ∷ log)
+      ≡ with_time space n turn.sends (time_sent end space n log)
   pub flight : (gone : Numbers) → all_flight end gone (event ∷ log)
       ≤ added turn.counts gone + all_flight end (λ space n. turn.ends space n || gone space n) log
 
@@ -60,6 +62,8 @@ logged_on validated log event end first turn past after adds goes logged = recor
   left = let one = goes.left in let two = adds.left in let old = logged.left in omega (arith, one, two, old);
   largest = λ space. goes.largest space ∙ ap (with_largest space turn.heard turn.at) (logged.largest space)
       ∙ sym (adds.largest space);
+  times = λ space n. goes.timed space n ∙ ap (with_time space n turn.sends) (logged.times space n)
+      ∙ sym (adds.times space n);
   flight = λ gone. (
       let one = goes.flight gone in
       let two = adds.flight gone in
@@ -100,8 +104,18 @@ module _ (log : PairLog) (there : SpaceId) (now size n : ℕ) (items : Vec ℕ) 
   flight_same Client gone = none_counted (all_flight Server gone log)
   flight_same Server gone = none_counted (all_flight Client gone log)
 
+  time_here : (end : End) (space : SpaceId) (m : ℕ) → time_sent end space m (departure end ∷ log)
+      ≡ with_time space m (Some (there, n, now)) (time_sent end space m log)
+  time_here Client space m = refl
+  time_here Server space m = refl
+
+  time_there : (end : End) (space : SpaceId) (m : ℕ)
+      → time_sent (other_end end) space m (departure end ∷ log) ≡ time_sent (other_end end) space m log
+  time_there Client space m = refl
+  time_there Server space m = refl
+
   pub sending_adds : (end : End) (largest : Option ℕ)
-      → Adds (packet_leaving size (counted_if eliciting size) there n largest) end (departure end) log
+      → Adds (packet_leaving size (counted_if eliciting size) there n largest now) end (departure end) log
   sending_adds end largest = record {
     came = λ space. refl;
     discarded = λ space. refl;
@@ -109,6 +123,7 @@ module _ (log : PairLog) (there : SpaceId) (now size n : ℕ) (items : Vec ℕ) 
     arrived = no_less (bytes_arrived end log) (bytes_arrived end log) refl;
     left = at_most _ _ (sent_more end);
     largest = λ space. refl;
+    times = time_here end;
     flight = flight_more end;
   }
 
@@ -120,6 +135,7 @@ module _ (log : PairLog) (there : SpaceId) (now size n : ℕ) (items : Vec ℕ) 
     arrived = no_less (bytes_arrived (other_end end) log) (bytes_arrived (other_end end) log) refl;
     left = no_more _ _ (sent_same end);
     largest = λ space. refl;
+    times = time_there end;
     flight = flight_same end;
   }
 
@@ -194,6 +210,7 @@ module _ (log : PairLog) (at now : ℕ) (there : SpaceId) (n size : ℕ) where
     arrived = arrived_here to fate;
     left = no_more (bytes_sent to log) (bytes_sent to log) refl;
     largest = λ space. largest_here space to fate;
+    times = λ space m. refl;
     flight = λ gone. no_more _ _ (ended_here gone to fate);
   }
 
@@ -205,6 +222,7 @@ module _ (log : PairLog) (at now : ℕ) (there : SpaceId) (n size : ℕ) where
     arrived = arrived_there to fate;
     left = no_more (bytes_sent (other_end to) log) (bytes_sent (other_end to) log) refl;
     largest = λ space. largest_there space to fate;
+    times = λ space m. refl;
     flight = λ gone. no_more _ _ (ended_there gone to fate);
   }
 
@@ -238,6 +256,11 @@ module _ (log : PairLog) (end : End) where
   no_largest (Arrive at now) (Ok (Arrived to there number size fate)) none space = absurd none
   no_largest step answer none space = refl
 
+  no_time : (event : PairEvent) → IsNoPacket event → (space : SpaceId) (n : ℕ)
+      → time_sent end space n (event ∷ log) ≡ time_sent end space n log
+  no_time (Send from there now size, Ok (Sent number items eliciting window delay)) none space n = absurd none
+  no_time event none space n = refl
+
   none_ended : (step : PairStep) (answer : Result PairAnswer SenderError) → IsNoPacket (step, answer)
       → IsNotLocal step → (gone : Numbers) → all_flight end gone ((step, answer) ∷ log) ≡ all_flight end gone log
   none_ended (Local at step) answer none other gone = absurd other
@@ -264,6 +287,7 @@ module _ (log : PairLog) (end : End) where
     arrived = no_less _ _ (none_arrived (step, answer) none);
     left = no_more _ _ (none_left (step, answer) none);
     largest = no_largest step answer none;
+    times = no_time (step, answer) none;
     flight = λ gone. no_more _ _ (none_ended step answer none other gone);
   }
 
@@ -339,6 +363,7 @@ module _ (log : PairLog) where
     pub leaves : turn.leaves ≡ 0
     pub counts : turn.counts ≡ None
     pub carries : turn.carries ≡ None
+    pub sends : turn.sends ≡ None
     pub unacked : (space : SpaceId) (n : ℕ) → turn.acks space n ≡ true → ⊥
 
   -- it discards a space, validates an address, or has packets declared lost
@@ -354,6 +379,7 @@ module _ (log : PairLog) where
     leaves = refl;
     counts = refl;
     carries = refl;
+    sends = refl;
     unacked = λ space n never. true≢false (sym never);
   }
 
@@ -381,6 +407,11 @@ module _ (log : PairLog) where
   with_none space number before none =
       subst (λ (one : Option (SpaceId × ℕ)). with_number space one before ≡ before) (sym none) refl
 
+  untimed : (space : SpaceId) (n : ℕ) (sends : Option (SpaceId × ℕ × ℕ)) (before : ℕ) → sends ≡ None
+      → with_time space n sends before ≡ before
+  untimed space n sends before none =
+      subst (λ (one : Option (SpaceId × ℕ × ℕ)). with_time space n one before ≡ before) (sym none) refl
+
   pub local_adds : (end : End) (step : LocalStep) (answer : Result PairAnswer SenderError)
       → IsNoPacket (Local end step, answer) → Adds (local_turn step answer) end (Local end step, answer) log
   local_adds end step answer none =
@@ -397,6 +428,8 @@ module _ (log : PairLog) where
         largest = λ space. no_largest log end (Local end step) answer none space
             ∙ sym (none_heard space (local_turn step answer).heard (local_turn step answer).at
             (largest_new end space log) moves.heard);
+        times = λ space n. no_time log end (Local end step, answer) none space n
+            ∙ sym (untimed space n (local_turn step answer).sends (time_sent end space n log) moves.sends);
         flight = λ gone. (
             let none_added = added_none (local_turn step answer).counts gone moves.counts in
             let same = ends_here end step answer none gone in omega (arith, none_added, same));
@@ -411,5 +444,6 @@ module _ (log : PairLog) where
     arrived = no_less _ _ (none_arrived log (other_end end) (Local end step, answer) none);
     left = no_more _ _ (none_left log (other_end end) (Local end step, answer) none);
     largest = no_largest log (other_end end) (Local end step) answer none;
+    times = no_time log (other_end end) (Local end step, answer) none;
     flight = λ gone. no_more _ _ (ends_there end step answer none gone);
   }

@@ -46,6 +46,7 @@ new_logged validated end first past same goes = record {
   arrived = goes.arrived;
   left = goes.left;
   largest = goes.largest;
+  times = goes.timed;
   flight = λ gone. omega arith;
 }
 

@@ -79,11 +79,11 @@ module _ {F Q R C K S M P : Type 0} {f : _} {c : _} {q : _} {m : _} {r : _} wher
   pub sends_by_call : (space : SpaceId) (now size : ℕ) (eliciting : Bool) (largest : Option ℕ) (queue : Q) (frames : M)
       (number : ℕ) (forgotten : Option ℕ) (kept : Variables) (old new : Sender F Q R C K S M P f c q m r)
       → CompletesCall (told (Send space now size eliciting largest queue frames) (Ok (Sent number forgotten)) ∷ []) kept
-      old new → Continues (SendsNumber 0 (counted_if eliciting size) space number largest) old new
+      old new → Continues (SendsNumber 0 (counted_if eliciting size) space number largest now) old new
   sends_by_call space now size eliciting largest queue frames number forgotten kept old new does =
       call_goes (Send space now size eliciting largest queue frames) (Ok (Sent number forgotten))
-      (SendsNumber 0 (counted_if eliciting size) space number largest)
-      (sends_then_quiet 0 (counted_if eliciting size) space number largest) kept old new does
+      (SendsNumber 0 (counted_if eliciting size) space number largest now)
+      (sends_then_quiet 0 (counted_if eliciting size) space number largest now) kept old new does
       (λ config start random past keeps. sends_event past space now size eliciting largest queue frames number forgotten
       keeps.numbers_increase keeps.one_outcome keeps.forgotten (it_goes space number))
 

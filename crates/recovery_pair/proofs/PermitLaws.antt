@@ -17,24 +17,26 @@ use Rattle.recovery_pair.specs.Waits.{PackWaits}
 
 -- a permitted packet is sent, or fails
 pub packed_agrees : {F Q R C K S M P : Type 0} {f : _} {c : _} {q : _} {m : _} {r : _}
-    (before after : Sender F Q R C K S M P f c q m r) (from : End) (space : SpaceId) (size : ℕ) (eliciting : Bool)
+    (before after : Sender F Q R C K S M P f c q m r) (from : End) (space : SpaceId) (now size : ℕ) (eliciting : Bool)
     (checked : Option ℕ) (Idle : Type 0) (ranges : List (ℕ × ℕ)) (delay : ℕ) (said : Result Transmission SenderError)
     (old new : List
     Waiting)
     (outcome : Outgoing) → said ≡ Ok Transmitted
-    → PackTurn before after from space size eliciting checked ranges delay outcome → PackWaits old new space outcome
+    → PackTurn before after from space now size eliciting checked ranges delay outcome → PackWaits old new space outcome
     → AgreesAlready Idle eliciting checked said (Ok outcome)
-packed_agrees before after from space size eliciting checked Idle ranges delay said old new (Sent packet items window)
+packed_agrees before after from space now size eliciting checked Idle ranges delay
+    said old new (Sent packet items window)
     is
     turn
     waits =
     (is, turn.elicits, turn.window_is)
-packed_agrees before after from space size eliciting checked Idle ranges delay said old new (Failed refusal) is turn
+packed_agrees before after from space now size eliciting checked Idle ranges delay said old new (Failed refusal) is turn
     waits =
     is
-packed_agrees before after from space size eliciting checked Idle ranges delay said old new (Held held) is turn waits =
+packed_agrees before after from space now size eliciting checked Idle ranges delay said old new (Held held)
+    is turn waits =
     absurd waits
-packed_agrees before after from space size eliciting checked Idle ranges delay said old new Nothing is turn waits =
+packed_agrees before after from space now size eliciting checked Idle ranges delay said old new Nothing is turn waits =
     absurd waits
 
 pub permits_at : {F Q R C K S M P : Type 0} {f : _} {c : _} {q : _} {m : _} {r : _} (end : End) (space : SpaceId)

@@ -110,6 +110,7 @@ step_keeps client server client_after server_after wire wire_after client_waits 
         delay = one.0.delay;
         flight = one.0.flight;
         largest = one.0.largest;
+        samples = one.0.samples;
         sends = two.0;
         local = local;
       },

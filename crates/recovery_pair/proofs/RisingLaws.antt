@@ -73,7 +73,7 @@ largest_in_frame (range ∷ ranges) fine l is =
     let last : range.1 ≡ l = cc in
     inl (grind (arith, nat_tests, two.0, last), omega (arith, last))
 
-some_frame : (ranges : List (ℕ × ℕ)) (l : ℕ) → IsSoundFrame ranges → largest_of ranges ≡ Some l
+pub some_frame : (ranges : List (ℕ × ℕ)) (l : ℕ) → IsSoundFrame ranges → largest_of ranges ≡ Some l
     → are_ranges ranges ≡ true
 some_frame ranges l (inr fine) is = fine
 some_frame [] l (inl none) is = absurd cc
@@ -183,10 +183,10 @@ never_other Client Server one two = absurd cc
 never_other Server Client one two = absurd cc
 never_other Server Server one two = absurd cc
 
-module _ {Q S M P : Type 0} (log : PairLog) (size counted : ℕ) (end : End) (past after peer : History Q S M P)
+module _ {Q S M P : Type 0} (log : PairLog) (size counted now : ℕ) (end : End) (past after peer : History Q S M P)
     (packet : WirePacket) (wire : List WirePacket) (sender : packet.from ≡ end)
     (sound : IsSoundFrame packet.ranges.items)
-    (sends : SendsWithAck size counted packet.space packet.number packet.ranges.items past after)
+    (sends : SendsWithAck size counted packet.space packet.number packet.ranges.items now past after)
     (flows : Flows log end past peer) (back : Flows log (other_end end) peer past)
     (wired : AllByRecursion (IsOnWire log) wire) (rises : AcksRise end past peer wire)
     (others : AcksRise (other_end end) peer past wire) where

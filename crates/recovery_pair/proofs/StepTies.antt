@@ -1,6 +1,6 @@
 -- Each step of an end keeps the promises, and the tie of the log. It is proved once, for the end that makes it.
 use Rattle.std.proofs.Common.{◌≡◌, ℕ, nat_le, ◌<◌, ◌≤◌, ◌⊎◌, inl, inr, Bool, true, false, true≢false, List, [], ◌∷◌, ◌++◌, length, get_or, ◌+◌, Option, None, Some, Result, Ok, refl, sym, ap, subst, ◌∙◌, arith}
-use Rattle.std.specs.Prelude.{IfOk, map}
+use Rattle.std.specs.Prelude.{IfOk, IfSome, map}
 use Rattle.std.specs.Global.{Vec}
 use Rattle.std.specs.List.{AllByRecursion}
 use Rattle.std.proofs.lemmas.Bool.Decides.{nat_tests}
@@ -13,6 +13,7 @@ use Rattle.recovery_losses.specs.Frames.{IsInAckRanges, largest_of}
 use Rattle.recovery_paths.specs.declared.path_pair.PathName.TheVariants.{Current}
 use Rattle.recovery_history.specs.History.{History, begins, queue_model}
 use Rattle.recovery_history.specs.Promises.NewNumbers.{came_in, is_discarded, is_new}
+use Rattle.recovery_sender.specs.Promises.Lost.{sent_at}
 use Rattle.recovery_sender.specs.Senders.{state_in}
 use Rattle.recovery_sender.specs.declared.sender.Sender.{Sender}
 use Rattle.recovery_sender.specs.declared.sender.SenderError.{SenderError}
@@ -32,9 +33,9 @@ use Rattle.recovery_pair.specs.declared.steps.PairStep.{PairStep}
 use Rattle.recovery_pair.specs.declared.steps.PairStep.TheVariants.{Arrive, Local, Send}
 use Rattle.recovery_pair.specs.declared.steps.WirePacket.{WirePacket}
 use Rattle.recovery_pair.specs.Frames.{IsSoundFrame}
-use Rattle.recovery_pair.specs.Logs.{IsAt, PairEvent, PairLog, LoggedPacket, ack_of, deliveries_of, numbers_at, other_end, sends_of, was_discarded, wire_of}
+use Rattle.recovery_pair.specs.Logs.{IsAt, PairEvent, PairLog, LoggedPacket, ack_of, deliveries_of, numbers_at, other_end, sends_of, time_sent, was_discarded, wire_of}
 use Rattle.recovery_pair.specs.Flights.{counted_if, no_numbers}
-use Rattle.recovery_pair.specs.Pasts.{AcksWithin, Continues, GoesOn, GoesOnQuietly, Endings, HearsNumber, IsHeardBy, SendsWithAck, EndTurn, WereSentUnder, endings_by_ack, endings_by_fate, hearing, packet_leaving, quiet}
+use Rattle.recovery_pair.specs.Pasts.{AcksWithin, Continues, GoesOn, GoesOnQuietly, Endings, HearsNumber, IsHeardBy, IsSince, SampledBy, SamplesSince, SendsWithAck, EndTurn, WereSentUnder, endings_by_ack, endings_by_fate, hearing, packet_leaving, quiet}
 use Rattle.recovery_pair.specs.Permits.{FitsChecked}
 use Rattle.recovery_pair.specs.Promises.Arrivals.{ArrivesAsSent, Delivers, IsArrival, IsFateBy, IsFirstDelivery}
 use Rattle.recovery_pair.specs.Promises.DeliveredOnce.{AcksDelivered}
@@ -43,6 +44,7 @@ use Rattle.recovery_pair.specs.Promises.NeverAccused.{NeverAccuses}
 use Rattle.recovery_pair.specs.Promises.Delays.{ReportsDelay, largest_new}
 use Rattle.recovery_pair.specs.Promises.Excess.{ExceedsByProbes}
 use Rattle.recovery_pair.specs.Promises.LargestAcked.{AcksLargest, IsLargestOf}
+use Rattle.recovery_pair.specs.Promises.RttSamples.{IsSampleAt, SamplesRoundTrips}
 use Rattle.recovery_pair.specs.Promises.Threefold.{ServerSendsThreefold}
 use Rattle.recovery_pair.specs.Promises.Window.{SendsWithinWindow}
 use Rattle.recovery_pair.specs.Rising.{RisesAbove}
@@ -54,7 +56,8 @@ use Rattle.recovery_pair.proofs.LargestLaws.{largest_by}
 use Rattle.recovery_pair.proofs.GoingLaws.{quiet_none}
 use Rattle.recovery_pair.proofs.LogLaws.{Adds, IsNoPacket, IsNotLocal, arriving_adds, arriving_adds_not, idle_adds, local_adds, local_adds_not, local_moves, logged_on, sending_adds, sending_adds_not}
 use Rattle.recovery_pair.proofs.QuietLaws.{same_quietly}
-use Rattle.recovery_pair.proofs.RisingLaws.{frame_largest, heard_top, rises_by, rises_on, rises_sent, rises_still, rises_there}
+use Rattle.recovery_pair.proofs.RisingLaws.{frame_largest, heard_top, in_below, rises_by, rises_on, rises_sent, rises_still, rises_there, some_frame}
+use Rattle.recovery_pair.proofs.TurnLaws.{since_same}
 use Rattle.recovery_pair.proofs.TieLaws.{all_at, all_map, all_push, before_it, delivered_known, flows_kept, flows_sent, flows_taken, other_sends, other_takes, received_delivered, sending, sends_kept, sent_once, takes_kept, taking}
 
 -- ---- ends
@@ -79,6 +82,7 @@ pub record KeepsExchange (validated : Bool) (log : PairLog) (event : PairEvent) 
   pub delay : ReportsDelay log event
   pub flight : ExceedsByProbes (event ∷ log)
   pub largest : AcksLargest log event
+  pub samples : SamplesRoundTrips log event
 
 -- ---- one end makes a step, the other does nothing
 
@@ -194,6 +198,10 @@ silent_largest : (log : PairLog) (event : PairEvent) → IsSilent event → Acks
 silent_largest log (Send from there now size, Ok (Sent number items eliciting window delay)) silent = absurd silent
 silent_largest log event silent = tt
 
+silent_samples : (log : PairLog) (event : PairEvent) → IsSilent event → SamplesRoundTrips log event
+silent_samples log (Arrive at now, Ok (Arrived to there number size (New items acked))) silent = absurd silent
+silent_samples log event silent = tt
+
 silent_delivers : (log : PairLog) (event : PairEvent) → IsSilent event → AcksDelivered log event
 silent_delivers log (step, Ok (Arrived to there number size (New items acked))) silent = absurd silent
 silent_delivers log event silent = tt
@@ -264,6 +272,7 @@ module _ {F Q R C K S M P : Type 0} {f : _} {c : _} {q : _} {m : _} {r : _} (end
       delay = silent_delay log (step, answer) silent;
       flight = exceeds_by ((step, answer) ∷ log) tied_still.within;
       largest = silent_largest log (step, answer) silent;
+      samples = silent_samples log (step, answer) silent;
     },
     tied_still,
   )
@@ -288,8 +297,8 @@ sent_same end size items packet sender sized told = rw (sender, sized, told) ref
 module _ {Q S M P : Type 0} (log : PairLog) (now size : ℕ) (end : End) (past after peer : History Q S M P)
     (packet : WirePacket) (items : Vec ℕ) (window : Option ℕ) (wire : List WirePacket) (sender : packet.from ≡ end)
     (told : items.items ≡ packet.items.items) (sound : IsSoundFrame packet.ranges.items)
-    (sends : SendsWithAck size (counted_if packet.eliciting size) packet.space packet.number packet.ranges.items past
-    after)
+    (sends : SendsWithAck size (counted_if packet.eliciting size) packet.space packet.number packet.ranges.items now
+    past after)
     (flows : Flows log end past peer) (back : Flows log (other_end end) peer past)
     (wired : AllByRecursion (IsOnWire log) wire) where
   abbrev sent_log : PairLog
@@ -304,7 +313,7 @@ module _ {Q S M P : Type 0} (log : PairLog) (now size : ℕ) (end : End) (past a
   back_sent : Flows sent_log (other_end end) peer after
   back_sent = flows_kept log sent_log (other_end end)
       (packet_leaving size (counted_if packet.eliciting size) packet.space packet.number
-      (largest_of packet.ranges.items)) peer peer past after
+      (largest_of packet.ranges.items) now) peer peer past after
       (other_sends log packet.space now size packet.number items packet.eliciting window (ack_of packet) end)
       (λ space n. refl) (λ space n given. given) refl
       sends.sends.goes back
@@ -402,7 +411,7 @@ module _ {F Q R C K S M P : Type 0} {f : _} {c : _} {q : _} {m : _} {r : _} (end
             is.sound own.2 tied.out tied.back tied.wired;
         logged = logged_on validated log event end tied.own.config.validated
             (packet_leaving size (counted_if packet.eliciting size) packet.space packet.number
-            (largest_of packet.ranges.items)) tied.own.past own.0
+            (largest_of packet.ranges.items) now) tied.own.past own.0
             (sending_adds log packet.space now size packet.number items packet.eliciting window (ack_of packet) end
             (largest_of packet.ranges.items))
             own.2.sends.goes
@@ -424,9 +433,10 @@ module _ {F Q R C K S M P : Type 0} {f : _} {c : _} {q : _} {m : _} {r : _} (end
             is.told
             is.sound own.2 tied.out tied.back tied.wired;
         within = within_on log event (fits_by window is.fits) tied.within;
-        own_rise = rises_sent log size (counted_if packet.eliciting size) end tied.own.past own.0 tied.peer.past packet
+        own_rise = rises_sent log size (counted_if packet.eliciting size) now end tied.own.past own.0 tied.peer.past
+            packet
             wire is.sender is.sound own.2 tied.out tied.back tied.wired tied.own_rise tied.peer_rise;
-        peer_rise = rises_there log size (counted_if packet.eliciting size) end tied.own.past own.0 tied.peer.past
+        peer_rise = rises_there log size (counted_if packet.eliciting size) now end tied.own.past own.0 tied.peer.past
             packet wire is.sender is.sound own.2 tied.out tied.back tied.wired tied.own_rise tied.peer_rise;
       }
 
@@ -459,6 +469,7 @@ module _ {F Q R C K S M P : Type 0} {f : _} {c : _} {q : _} {m : _} {r : _} (end
           end ∷ log)
           tied_sent.within;
       largest = largest_by_log;
+      samples = tt;
     },
     tied_sent,
   )
@@ -560,6 +571,26 @@ module _ {Q S M P : Type 0} (log : PairLog) (to : End) (past peer : History Q S 
   acks_delivered step number size items (Taken all) within = λ n there. (let was = acks n (within n there) in
       (delivered_known log to past peer flows space n was.0 was.1).0)
   acks_delivered step number size items acked within = tt
+
+-- ---- an RTT sample
+
+sample_is : (log : PairLog) (end : End) (space : SpaceId) (number size at now : ℕ) (items : Vec ℕ)
+    (ranges : List (ℕ × ℕ)) → IsSoundFrame ranges → (outcome : AckOutcome) → AcksWithin ranges outcome
+    → SamplesSince (λ n. time_sent end space n log) now ranges outcome
+    → SamplesRoundTrips log (Arrive at now, Ok (Arrived end space number size (New items outcome)))
+sample_is log end space number size at now items ranges sound (Taken acked) within since = by acked.rtt since
+  where
+    by : (rtt : Option ℕ) → IfSome rtt (IsSince (λ n. time_sent end space n log) now ranges acked.numbers.items)
+        → IfSome rtt (IsSampleAt log end space now acked.numbers.items)
+    by None is = tt
+    by (Some rtt) is = record {
+      largest = is.largest;
+      newly = is.newly;
+      most = λ n one. in_below ranges (some_frame ranges is.largest sound is.is_largest) n is.largest is.is_largest
+          (within n one);
+      since = is.since;
+    }
+sample_is log end space number size at now items ranges sound outcome within since = tt
 
 -- ---- a packet that arrives was sent
 
@@ -713,6 +744,18 @@ module _ {F Q R C K S M P : Type 0} {f : _} {c : _} {q : _} {m : _} {r : _} (at 
               own.2.goes.given tied.peer_rise;
         }
 
+    -- a sample is the time since the largest newly acknowledged number was sent, by the log
+    sampled_by_log : (outcome : AckOutcome) → AcksWithin packet.ranges.items outcome
+        → SampledBy packet.space now packet.ranges.items here outcome
+        → SamplesRoundTrips log
+        (Arrive at now, Ok (Arrived (other_end from) packet.space packet.number packet.size (New items outcome)))
+    sampled_by_log outcome in_it samples =
+        sample_is log (other_end from) packet.space packet.number packet.size at now items packet.ranges.items
+        on_wire.sound outcome in_it (since_same (sent_at packet.space tied.own.past)
+        (λ n. time_sent (other_end from) packet.space n log) now packet.ranges.items
+        (tied.logged.times packet.space) outcome
+        (samples tied.own.config tied.own.start tied.own.random tied.own.past tied.own.came))
+
     pub new_step : KeepsExchange validated log event
         × IsTiedAt validated (other_end from) (event ∷ log) after there wire
     new_step =
@@ -732,6 +775,7 @@ module _ {F Q R C K S M P : Type 0} {f : _} {c : _} {q : _} {m : _} {r : _} (at 
             delay = tt;
             flight = exceeds_by (event ∷ log) tied_new.within;
             largest = tt;
+            samples = sampled_by_log acked is.takes.within is.takes.sampled;
           },
           tied_new,
         )

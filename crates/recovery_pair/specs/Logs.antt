@@ -103,6 +103,13 @@ module _ (end : End) where
   has_validated first ((Local at AddressValidated, Ok Done) ∷ earlier) = same_end at end || has_validated first earlier
   has_validated first (event ∷ earlier) = has_validated first earlier
 
+  -- when the endpoint sent the packet of a number
+  abbrev pub time_sent : SpaceId → ℕ → PairLog → ℕ
+  time_sent space n [] = 0
+  time_sent space n ((Send from there now size, Ok (Sent number items eliciting window delay)) ∷ earlier) =
+      if is_number end space n from there number then now else time_sent space n earlier
+  time_sent space n (event ∷ earlier) = time_sent space n earlier
+
   -- a step dropped the keys of a space
   abbrev pub was_discarded : SpaceId → PairLog → Bool
   was_discarded space [] = false

@@ -1,5 +1,5 @@
 -- How the past of an end goes on: what was sent stays sent, what was received stays received.
-use Rattle.std.specs.Prelude.{◌≡◌, ℕ, ◌+◌, ◌<◌, ◌≤◌, ◌⊎◌, ◌||◌, ◌&&◌, ◌==◌, nat_eq, nat_le, Bool, true, false, List, [], ◌∷◌, sum_by, Option, None, Some, IfSome, IsSomeAnd, Result, Ok, Err, if◌then◌else◌}
+use Rattle.std.specs.Prelude.{◌≡◌, ℕ, ◌+◌, ◌-◌, ◌<◌, ◌≤◌, ◌⊎◌, ◌||◌, ◌&&◌, ◌==◌, nat_eq, nat_le, Bool, true, false, List, [], ◌∷◌, sum_by, Option, None, Some, IfSome, IsSomeAnd, Result, Ok, Err, if◌then◌else◌}
 use Rattle.std.specs.Set.{is_member}
 use Rattle.rand_core.specs.Stream.{Stream}
 use Rattle.recovery_acks.specs.Acks.{largest_with}
@@ -22,6 +22,7 @@ use Rattle.recovery_history.specs.Promises.NewNumbers.{came_in, is_discarded, is
 use Rattle.recovery_history.specs.Promises.Paths.{generations}
 use Rattle.recovery_history.specs.Reachability.{ReachedBy}
 use Rattle.recovery_paths.specs.declared.path_pair.PathName.TheVariants.{Current}
+use Rattle.recovery_sender.specs.Promises.Lost.{sent_at}
 use Rattle.recovery_sender.specs.Promises.Pasts.{ForEveryPast}
 use Rattle.recovery_sender.specs.Senders.{state_in}
 use Rattle.recovery_sender.specs.declared.sender.Sender.{Sender}
@@ -59,6 +60,8 @@ pub record EndTurn : Type 0 where
   pub carries : Option (SpaceId × ℕ × Option ℕ)
   -- no other packets than these are acknowledged
   pub acks : Numbers
+  -- a packet is sent: its space, its number, and when
+  pub sends : Option (SpaceId × ℕ × ℕ)
 
 -- the packets that end, and those of them that are acknowledged
 pub record Endings : Type 0 where
@@ -78,6 +81,7 @@ ending endings = record {
   at = 0;
   carries = None;
   acks = endings.acked;
+  sends = None;
 }
 
 -- none of them is acknowledged
@@ -108,11 +112,12 @@ abbrev pub discarding : SpaceId → EndTurn
 discarding space = record quiet { discards = Some space; ends = λ there n. same_space space there }
 
 -- a packet is sent in a datagram of this size, with an ACK up to this number, if any
-abbrev pub packet_leaving : ℕ → ℕ → SpaceId → ℕ → Option ℕ → EndTurn
-packet_leaving size counted space n largest = record quiet {
+abbrev pub packet_leaving : ℕ → ℕ → SpaceId → ℕ → Option ℕ → ℕ → EndTurn
+packet_leaving size counted space n largest now = record quiet {
   leaves = size;
   counts = Some (space, n, counted);
   carries = Some (space, n, largest);
+  sends = Some (space, n, now);
 }
 
 abbrev pub validating : EndTurn
@@ -149,6 +154,11 @@ with_number space (Some number) before = if same_space number.0 space then numbe
 abbrev pub with_carried : SpaceId → ℕ → Option (SpaceId × ℕ × Option ℕ) → Option ℕ → Option ℕ
 with_carried space n None before = before
 with_carried space n (Some sent) before = if same_space sent.0 space && sent.1 == n then sent.2 else before
+
+-- when a packet was sent, after one was
+abbrev pub with_time : SpaceId → ℕ → Option (SpaceId × ℕ × ℕ) → ℕ → ℕ
+with_time space n None before = before
+with_time space n (Some sent) before = if same_space sent.0 space && sent.1 == n then sent.2 else before
 
 -- what a sent packet adds in flight, unless its number is gone
 abbrev pub added : Option (SpaceId × ℕ × ℕ) → Numbers → ℕ
@@ -225,6 +235,7 @@ module _ {Q S M P : Type 0} where
         + flight_in (λ space n. turn.ends space n || gone space n) past ≤ flight_in gone after
     pub carried : (space : SpaceId) (n : ℕ) → largest_in space n after
         ≡ with_carried space n turn.carries (largest_in space n past)
+    pub timed : (space : SpaceId) (n : ℕ) → sent_at space after n ≡ with_time space n turn.sends (sent_at space past n)
     pub topped : (space : SpaceId) → AcksBelow turn.acks space past after → KeepsLargest space past
         → KeepsLargest space after
 
@@ -233,9 +244,9 @@ module _ {Q S M P : Type 0} where
 
   -- a packet is sent under a number that was not used before, in a datagram of this size; `counted` bytes of the packet
   -- count in flight
-  pub record SendsNumber (size counted : ℕ) (space : SpaceId) (n : ℕ) (largest : Option ℕ)
+  pub record SendsNumber (size counted : ℕ) (space : SpaceId) (n : ℕ) (largest : Option ℕ) (now : ℕ)
       (past after : History Q S M P) : Type 0 where
-    pub goes : GoesOn (packet_leaving size counted space n largest) past after
+    pub goes : GoesOn (packet_leaving size counted space n largest now) past after
     pub unused : WasSentUnder space n past → ⊥
     pub above : (k : ℕ) → WasSentUnder space k past → k < n
     pub used : WasSentUnder space n after
@@ -243,8 +254,8 @@ module _ {Q S M P : Type 0} where
 
   -- and with an ACK of all numbers that are to be acknowledged
   pub record SendsWithAck (size counted : ℕ) (space : SpaceId) (n : ℕ) (ranges : List (ℕ × ℕ))
-      (past after : History Q S M P) : Type 0 where
-    pub sends : SendsNumber size counted space n (largest_of ranges) past after
+      (now : ℕ) (past after : History Q S M P) : Type 0 where
+    pub sends : SendsNumber size counted space n (largest_of ranges) now past after
     pub acks : (k : ℕ) → IsInAckRanges k ranges → WasReceived space k past
     pub whole : (k : ℕ) → WasReceived space k past → ¬ WasDropped space k past → IsInAckRanges k ranges
 
@@ -288,6 +299,23 @@ abbrev pub NoAccusation : {F Q R C K S M P : Type 0} {f : _} {c : _} {q : _} {m 
     → Sender F Q R C K S M P f c q m r → AckOutcome → Type 0
 NoAccusation space ranges sender outcome = IsSoundFrame ranges
     → ForEveryPast sender (λ past. WereSentUnder space ranges past → IsSpared outcome)
+
+-- an RTT sample is the time since the largest number of the frame was sent, which is newly acknowledged
+pub record IsSince (sent : ℕ → ℕ) (now : ℕ) (ranges : List (ℕ × ℕ)) (numbers : List ℕ) (rtt : ℕ) : Type 0 where
+  pub largest : ℕ
+  pub is_largest : largest_of ranges ≡ Some largest
+  pub newly : IsOneOf largest numbers
+  pub since : rtt ≡ now - sent largest
+
+abbrev pub SamplesSince : (ℕ → ℕ) → ℕ → List (ℕ × ℕ) → AckOutcome → Type 0
+SamplesSince sent now ranges (Taken acked) = IfSome acked.rtt (IsSince sent now ranges acked.numbers.items)
+SamplesSince sent now ranges outcome = Unit {0}
+
+-- by each past
+abbrev pub SampledBy : {F Q R C K S M P : Type 0} {f : _} {c : _} {q : _} {m : _} {r : _} → SpaceId → ℕ → List (ℕ × ℕ)
+    → Sender F Q R C K S M P f c q m r → AckOutcome → Type 0
+SampledBy space now ranges sender outcome =
+    ForEveryPast sender (λ past. SamplesSince (sent_at space past) now ranges outcome)
 
 -- what is newly acknowledged is in the frame
 abbrev pub AcksWithin : List (ℕ × ℕ) → AckOutcome → Type 0

@@ -10,6 +10,7 @@ use Rattle.recovery_pair.specs.Promises.Excess.{ExceedsByProbes}
 use Rattle.recovery_pair.specs.Promises.LargestAcked.{AcksLargest}
 use Rattle.recovery_pair.specs.Promises.Locals.{AnswersLocally}
 use Rattle.recovery_pair.specs.Promises.NeverAccused.{NeverAccuses}
+use Rattle.recovery_pair.specs.Promises.RttSamples.{SamplesRoundTrips}
 use Rattle.recovery_pair.specs.Promises.Sends.{SendsWhatWaits}
 use Rattle.recovery_pair.specs.Promises.Threefold.{ServerSendsThreefold}
 use Rattle.recovery_pair.specs.Promises.Window.{SendsWithinWindow}
@@ -20,6 +21,7 @@ pub mod Excess
 pub mod LargestAcked
 pub mod Locals
 pub mod NeverAccused
+pub mod RttSamples
 pub mod Sends
 pub mod Threefold
 pub mod Window
@@ -46,6 +48,9 @@ pub record KeepsPromises (validated : Bool) (log : PairLog) (event : PairEvent) 
   -- The largest number of an ACK frame that an endpoint sends is the largest number that it received in the space (RFC
   -- 9000, 13.2.3). So the ACK delay is the time since the packet of that number arrived.
   pub largest : AcksLargest log event
+  -- An RTT sample is the time since the endpoint sent the packet of the largest number that an ACK frame newly
+  -- acknowledges (RFC 9002, 5.1).
+  pub samples : SamplesRoundTrips log event
   -- An endpoint has nothing to send in a space only once it has sent there no less than was passed to it, by every
   -- measure of the items of a packet (RFC 9000, 13).
   pub sends : SendsWhatWaits log event

@@ -12,6 +12,7 @@ use Rattle.recovery_history.specs.Promises.Datagrams.{is_validated}
 use Rattle.recovery_history.specs.Promises.NewNumbers.{came_in, is_discarded}
 use Rattle.recovery_history.specs.Reachability.{ReachedBy}
 use Rattle.recovery_paths.specs.declared.path_pair.PathName.TheVariants.{Current}
+use Rattle.recovery_sender.specs.Promises.Lost.{sent_at}
 use Rattle.recovery_sender.specs.Senders.{state_in}
 use Rattle.recovery_sender.specs.declared.sender.Sender.{Sender}
 use Rattle.recovery_pair.specs.declared.endpoint.Waiting.{Waiting}
@@ -20,7 +21,7 @@ use Rattle.recovery_pair.specs.declared.steps.End.TheVariants.{Client, Server}
 use Rattle.recovery_pair.specs.declared.steps.WirePacket.{WirePacket}
 use Rattle.recovery_pair.specs.Flights.{Numbers, flight_of, largest_window, no_numbers}
 use Rattle.recovery_pair.specs.Frames.{IsSoundFrame}
-use Rattle.recovery_pair.specs.Logs.{PairLog, LoggedPacket, bytes_arrived, bytes_sent, deliveries_of, has_validated, numbers_at, other_end, sends_of, was_discarded, wire_of}
+use Rattle.recovery_pair.specs.Logs.{PairLog, LoggedPacket, bytes_arrived, bytes_sent, deliveries_of, has_validated, numbers_at, other_end, sends_of, time_sent, was_discarded, wire_of}
 use Rattle.recovery_pair.specs.Waits.{AreQueued}
 use Rattle.recovery_pair.specs.Pasts.{Came, WasSentUnder, bytes_received, bytes_transmitted, flight_in, largest_came}
 use Rattle.recovery_pair.specs.Promises.Delays.{largest_new}
@@ -94,6 +95,7 @@ pub record IsLogged {Q S M P : Type 0} (validated : Bool) (log : PairLog) (end :
   pub arrived : bytes_received past ≤ bytes_arrived end log
   pub left : bytes_sent end log ≤ bytes_transmitted past
   pub largest : (space : SpaceId) → largest_came space past ≡ largest_new end space log
+  pub times : (space : SpaceId) (n : ℕ) → sent_at space past n ≡ time_sent end space n log
   pub flight : (gone : Numbers) → flight_of end (λ window. true) gone log ≤ flight_in gone past
 
 module _ {F Q R C K S M P : Type 0} {f : _} {c : _} {q : _} {m : _} {r : _} where

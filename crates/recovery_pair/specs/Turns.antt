@@ -26,7 +26,7 @@ use Rattle.recovery_pair.specs.declared.steps.WirePacket.{WirePacket}
 use Rattle.recovery_pair.specs.Flights.{counted_if, ends_by_timer}
 use Rattle.recovery_pair.specs.Frames.{IsSoundFrame}
 use Rattle.recovery_pair.specs.Permits.{FitsChecked, window_checked}
-use Rattle.recovery_pair.specs.Pasts.{AcksWithin, Continues, GoesOn, GoesOnQuietly, HearsNumber, NoAccusation, SendsNumber, SendsWithAck, EndTurn, discarding, ending, endings_by_fate, leaving, losing, quiet, validating}
+use Rattle.recovery_pair.specs.Pasts.{AcksWithin, Continues, GoesOn, GoesOnQuietly, HearsNumber, NoAccusation, SampledBy, SendsNumber, SendsWithAck, EndTurn, discarding, ending, endings_by_fate, leaving, losing, quiet, validating}
 
 -- a call that may fail
 abbrev pub TriesTurn : {F Q R C K S M P : Type 0} {f : _} {c : _} {q : _} {m : _} {r : _} → EndTurn
@@ -82,10 +82,10 @@ module _ {F Q R C K S M P : Type 0} {f : _} {c : _} {q : _} {m : _} {r : _} (old
       pub fits : FitsChecked old size window
       pub waited : packet.delay ≡ delay_at now (acks_of (space_of space (state_in old).spaces)).counts.largest
       pub goes : Continues (SendsWithAck size (counted_if packet.eliciting size) space packet.number
-          packet.ranges.items) old new
+          packet.ranges.items now) old new
 
     -- a packet is packed with these ranges
-    pub record PacksPacket (from : End) (space : SpaceId) (size : ℕ) (eliciting : Bool) (checked : Option ℕ)
+    pub record PacksPacket (from : End) (space : SpaceId) (now size : ℕ) (eliciting : Bool) (checked : Option ℕ)
         (ranges : List (ℕ × ℕ)) (delay : ℕ) (packet : WirePacket) (items : Vec ℕ) (window : Option ℕ) : Type 0 where
       pub sender : packet.from ≡ from
       pub there : packet.space ≡ space
@@ -95,12 +95,13 @@ module _ {F Q R C K S M P : Type 0} {f : _} {c : _} {q : _} {m : _} {r : _} (old
       pub delays : packet.delay ≡ delay
       pub elicits : packet.eliciting ≡ eliciting
       pub window_is : window ≡ checked
-      pub goes : Continues (SendsNumber 0 (counted_if eliciting size) space packet.number (largest_of ranges)) old new
+      pub goes : Continues (SendsNumber 0 (counted_if eliciting size) space packet.number (largest_of ranges)
+          now) old new
 
-    abbrev pub PackTurn : End → SpaceId → ℕ → Bool → Option ℕ → List (ℕ × ℕ) → ℕ → Outgoing → Type 0
-    PackTurn from space size eliciting checked ranges delay (outgoing.Sent packet items window) =
-        PacksPacket from space size eliciting checked ranges delay packet items window
-    PackTurn from space size eliciting checked ranges delay other = Continues GoesOnQuietly old new
+    abbrev pub PackTurn : End → SpaceId → ℕ → ℕ → Bool → Option ℕ → List (ℕ × ℕ) → ℕ → Outgoing → Type 0
+    PackTurn from space now size eliciting checked ranges delay (outgoing.Sent packet items window) =
+        PacksPacket from space now size eliciting checked ranges delay packet items window
+    PackTurn from space now size eliciting checked ranges delay other = Continues GoesOnQuietly old new
 
     abbrev pub SendTurn : End → SpaceId → ℕ → ℕ → Result Outgoing SenderError → Type 0
     SendTurn from space now size (Ok (outgoing.Sent packet items window)) =
@@ -108,20 +109,21 @@ module _ {F Q R C K S M P : Type 0} {f : _} {c : _} {q : _} {m : _} {r : _} (old
     SendTurn from space now size other = Continues GoesOnQuietly old new
 
     -- a packet is new: its items are delivered, and its ACK frame is not refused for what it says
-    pub record TakesPacket (packet : WirePacket) (items : Vec ℕ) (acked : AckOutcome) : Type 0 where
+    pub record TakesPacket (packet : WirePacket) (now : ℕ) (items : Vec ℕ) (acked : AckOutcome) : Type 0 where
       pub told : items.items ≡ packet.items.items
       pub honest : NoAccusation packet.space packet.ranges.items old acked
       pub within : AcksWithin packet.ranges.items acked
+      pub sampled : SampledBy packet.space now packet.ranges.items old acked
 
-    abbrev pub IfNew : WirePacket → Fate → Type 0
-    IfNew packet (New items acked) = TakesPacket packet items acked
-    IfNew packet other = Unit {0}
+    abbrev pub IfNew : WirePacket → ℕ → Fate → Type 0
+    IfNew packet now (New items acked) = TakesPacket packet now items acked
+    IfNew packet now other = Unit {0}
 
     -- a packet arrives
     pub record HearsPacket (packet : WirePacket) (now : ℕ) (fate : Fate) : Type 0 where
       pub goes : Continues (HearsNumber now packet.size packet.space packet.number (reply_of fate)
           (endings_by_fate packet.space fate)) old new
-      pub takes : IfNew packet fate
+      pub takes : IfNew packet now fate
 
     abbrev pub HearTurn : WirePacket → ℕ → Result Fate SenderError → Type 0
     HearTurn packet now (Ok fate) = HearsPacket packet now fate

@@ -2,7 +2,7 @@
 ghost use Rattle.std.specs.Prelude.{◌≡◌, ◌≢◌, [], ◌∷◌, true, IfOk, MatchResult, Some};
 ghost use Rattle.recovery_pair.specs.Flights.{counted_if};
 ghost use Rattle.recovery_pair.specs.Frames.{IsFrameFor};
-ghost use Rattle.recovery_pair.specs.Pasts.{Continues, GoesOn, GoesOnQuietly, HearsNumber, NoAccusation, SendsNumber, AcksWithin, arm_told, arriving, discarding, ending, endings_by_ack, heard_of, no_endings, validating};
+ghost use Rattle.recovery_pair.specs.Pasts.{Continues, GoesOn, GoesOnQuietly, HearsNumber, NoAccusation, SampledBy, SendsNumber, AcksWithin, arm_told, arriving, discarding, ending, endings_by_ack, heard_of, no_endings, validating};
 ghost use Rattle.recovery_pair.specs.Permits.{FitsChecked, said_by, window_checked};
 ghost use Rattle.recovery_pair.specs.Timed.{KeepsTimer};
 ghost use Rattle.recovery_pair.specs.Turns.{FitsIfPermitted, TransmitTurn, TriesTurn, timeout_turn};
@@ -158,8 +158,8 @@ where
     F: ControllerFactory,
     R: Rng + Drop,
     ensures goes { MatchResult result
-        (λ number. Continues (SendsNumber 0 (counted_if eliciting size) space number largest)
-        sender.old sender.new)
+        (λ number. Continues (SendsNumber 0 (counted_if eliciting size) space number largest
+        now) sender.old sender.new)
         (λ refused. Continues GoesOnQuietly sender.old sender.new) }
     ensures timer { KeepsTimer sender.old sender.new }
 {
@@ -257,6 +257,7 @@ where
         sender.old sender.new }
     ensures honest { NoAccusation packet.now.space packet.now.ranges.items sender.old result }
     ensures within { AcksWithin packet.now.ranges.items result }
+    ensures sampled { SampledBy packet.now.space now packet.now.ranges.items sender.old result }
     ensures timer { KeepsTimer sender.old sender.new }
 {
     if packet.ranges.is_empty() {

@@ -173,8 +173,8 @@ where
         ack: AckToSend,
     ) -> Outgoing
         requires room { vec_len self.old.waiting < vec_capacity self.old.waiting }
-        ensures goes { PackTurn self.old.sender self.new.sender from space size eliciting window
-            ack.ranges.items ack.delay result }
+        ensures goes { PackTurn self.old.sender self.new.sender from space now size eliciting
+            window ack.ranges.items ack.delay result }
         ensures waits { PackWaits self.old.waiting.items self.new.waiting.items space result }
         ensures timer { KeepsTimer self.old.sender self.new.sender }
     {

@@ -22,6 +22,7 @@ pub mod PersistenceLaws
 pub mod PersistentLaws
 pub mod PromiseLaws
 pub mod RunningLaws
+pub mod RttLaws
 pub mod SampleLaws
 mod SampleRows
 pub mod StepLaws

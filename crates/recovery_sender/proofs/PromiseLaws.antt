@@ -24,9 +24,15 @@ use Rattle.recovery_sender.specs.Detection.{PassResult}
 use Rattle.recovery_sender.specs.Promises.Acked.{AcksTracked, LosesWholeSpace}
 use Rattle.recovery_sender.specs.Promises.Lost.{IsLostBy, IsWaitingBy, LosesTracked, sent_at}
 use Rattle.recovery_sender.specs.Promises.Pasts.{ForEveryPast}
+use Rattle.recovery_sender.specs.Promises.RttSampled.{SamplesByPast}
 use Rattle.recovery_sender.specs.Senders.{state_in}
 use Rattle.recovery_sender.specs.Spaces.{packets_in}
 use Rattle.recovery_sender.proofs.PastLaws.{sent_by_past, tracked_by}
+use Rattle.recovery_sender.proofs.RttLaws.{sampled_by_past}
+use Rattle.rand_core.specs.Stream.{Stream}
+use Rattle.recovery_history.specs.declared.config.RecoveryConfig.{RecoveryConfig}
+use Rattle.recovery_history.specs.History.{History, begins, queue_model}
+use Rattle.recovery_history.specs.Reachability.{ReachedBy}
 
 -- ---- whether a number is in a list
 
@@ -46,6 +52,9 @@ none_left numbers none = elim (eqb_tells numbers.len 0) [
   | inr apart ↦ absurd (true≢false (none ∙ apart.0))
 ]
 
+some_none : (number : ℕ) (numbers : List ℕ) → number ∷ numbers ≡ [] → ⊥
+some_none number numbers is = absurd cc
+
 -- ---- a frame in two steps
 
 module _ {F Q R C K S M P : Type 0} {f : _} {c : _} {q : _} {m : _} {r : _} (space : SpaceId) (now : ℕ)
@@ -60,9 +69,21 @@ module _ {F Q R C K S M P : Type 0} {f : _} {c : _} {q : _} {m : _} {r : _} (spa
     elicits = newly.elicits;
     newly = rw takes.numbers may.newly;
     tracked = rw takes.numbers may.tracked;
+    sampled = λ config start random past came. by config start random past came newly.numbers.items refl;
     none = λ none. takes.none (sym takes.numbers ∙ none);
     some = λ some. takes.some (λ none. some (takes.numbers ∙ none));
   }
+    where
+      by : (config : RecoveryConfig F) (start : ℕ) (random : Stream) (past : History Q S M P)
+          → ReachedBy (begins f.built c.words (queue_model q.contents q.words q.blank) config start random) past
+          (state_in old) → (numbers : List ℕ) → newly.numbers.items ≡ numbers
+          → SamplesByPast space now ranges acked.numbers.items acked.rtt past
+      by config start random past came [] none =
+          rw (takes.none none).rtt tt
+      by config start random past came (number ∷ numbers) some =
+          rw (takes.numbers, (takes.some (λ none. absurd (some_none number numbers (sym some ∙ none)))).rtt)
+          (sampled_by_past old config start random past came space may.whole.0 now ranges may.whole.1
+          newly.numbers.items newly.elicits may.newly)
 
 one_or_not : (number : ℕ) (numbers : List ℕ) → IsOneOf number numbers ⊎ (IsOneOf number numbers → ⊥)
 one_or_not number [] = inr (λ never. never)

@@ -30,6 +30,7 @@ use Rattle.recovery_sender.specs.Detection.{DetectsLosses, congested}
 use Rattle.recovery_sender.specs.Losses.{largest_in, IsEmptyLosses}
 use Rattle.recovery_sender.specs.Promises.Acked.{AcksTracked}
 use Rattle.recovery_sender.specs.Promises.Pasts.{ForEveryPast}
+use Rattle.recovery_sender.specs.Promises.RttSampled.{SamplesByPast}
 use Rattle.recovery_sender.specs.Senders.{state_in}
 use Rattle.recovery_sender.specs.Spaces.{packets_in, space_in}
 use Rattle.recovery_sender.specs.Steps.{SenderStep, CompletesCall, TakesSteps, marked, occurs, told}
@@ -219,6 +220,7 @@ module _ {F Q R C K S M P : Type 0} {f : _} {c : _} {q : _} {m : _} {r : _} (spa
     pub newly : AreNewlyAcked (packets_in (state_in old) space) ranges 0 acked.numbers.items elicits
     -- by the events before it
     pub tracked : ForEveryPast old (AcksTracked space ranges acked.numbers.items)
+    pub sampled : ForEveryPast old (SamplesByPast space now ranges acked.numbers.items acked.rtt)
     pub none : acked.numbers.items ≡ [] → HasNoneNewlyAcked acked
     pub some : (acked.numbers.items ≡ [] → ⊥) → Acknowledges space now ranges ack elicits old acked new
 

@@ -5,5 +5,6 @@ pub mod Liveness
 pub mod Lost
 pub mod Pasts
 pub mod Persistent
+pub mod RttSampled
 pub mod Samples
 pub mod Window

@@ -1,6 +1,6 @@
 use Rattle.std.proofs.Common.{ℕ, List, None, false, Err, Ok, refl, subst}
 use Rattle.recovery_sender.specs.Acking.{AckResult}
-use Rattle.recovery_pair.proofs.HonestLaws.{refused_spared, some_items, taken_within}
+use Rattle.recovery_pair.proofs.HonestLaws.{refused_spared, some_items, taken_sampled, taken_within}
 use Rattle.recovery_pair.proofs.QuietLaws.{ack_ending, same_quietly, within_any}
 use Rattle.recovery_pair.proofs.TimedLaws.{ack_timer, same_timer}
 use Rattle.recovery_pair.proofs.calls.hear_ack.Goals as goal
@@ -20,6 +20,11 @@ returns-in-Err-clause-goes g c = within_any _ c.args.sender.now c.on_ack.new.sel
 pub returns-in-Ok-clause-within : goal.returns-in-Ok-clause-within
 returns-in-Ok-clause-within g c = rw (← c.deref.ensures.value)
     (taken_within c.args.packet.now.space c.args.now _ _ c.args.sender.now c.on_ack.new.self c.in-Ok.acknowledged
+    c.in-Ok.ensures)
+
+pub returns-in-Ok-clause-sampled : goal.returns-in-Ok-clause-sampled
+returns-in-Ok-clause-sampled g c = rw (← c.deref.ensures.value)
+    (taken_sampled c.args.packet.now.space c.args.now _ _ c.args.sender.now c.on_ack.new.self c.in-Ok.acknowledged
     c.in-Ok.ensures)
 
 pub returns-in-Err-clause-honest : goal.returns-in-Err-clause-honest

@@ -9,8 +9,8 @@ use Rattle.recovery_pair.proofs.calls.track.Goals as goal
 
 pub returns-in-Ok-Sent-clause-goes : goal.returns-in-Ok-Sent-clause-goes
 returns-in-Ok-Sent-clause-goes g c =
-    subst (λ (counted : ℕ). Continues (SendsNumber 0 counted c.args.space c.in-Ok-Sent.number c.args.largest)
-    c.args.sender.now c.send.new.self)
+    subst (λ (counted : ℕ). Continues (SendsNumber 0 counted c.args.space c.in-Ok-Sent.number c.args.largest
+    c.args.now) c.args.sender.now c.send.new.self)
     (ap (counted_if c.args.eliciting) c.counted_if-counted.ensures ∙ counted_once c.args.eliciting c.args.size)
     (sends_by_call c.args.space c.args.now c.counted_if-counted.result c.args.eliciting c.args.largest c.args.queue _ _
     _

@@ -9,7 +9,7 @@ returns-in-Ok-Some-clause-goes g c = heard_turn c.args.now c.args.packet.now c.i
     (c.in-Ok.ensures ∙ c.deref.ensures.value) c.in-Ok-datagram.ensures.goes
     (rw c.in-Ok-Some.field-0-is at c.in-Ok-Some.ensures.goes) c.hear_ack-acked.ensures.goes
     c.hear_ack-acked.ensures.honest
-    c.hear_ack-acked.ensures.within c.plan_ack.ensures.goes
+    c.hear_ack-acked.ensures.within c.hear_ack-acked.ensures.sampled c.plan_ack.ensures.goes
 
 pub returns-in-Ok-None-clause-goes : goal.returns-in-Ok-None-clause-goes
 returns-in-Ok-None-clause-goes g c = record {

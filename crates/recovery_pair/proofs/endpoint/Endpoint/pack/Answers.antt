@@ -20,12 +20,12 @@ returns-in-Ok-track-clause-goes g c =
       elicits = refl;
       window_is = refl;
       goes = quietly_sends (counted_if c.args.eliciting c.args.size) c.args.space c.in-Ok-track.number
-          (largest_of c.args.ack.ranges.items) c.args.self.now.sender c.take_items.new.self.sender
+          (largest_of c.args.ack.ranges.items) c.args.now c.args.self.now.sender c.take_items.new.self.sender
           c.end_acks.new.self.sender c.in-Ok.ensures.goes (sends_quietly (counted_if c.args.eliciting c.args.size)
-          c.args.space c.in-Ok-track.number (largest_of c.args.ack.ranges.items) c.take_items.new.self.sender
+          c.args.space c.in-Ok-track.number (largest_of c.args.ack.ranges.items) c.args.now c.take_items.new.self.sender
           c.track.new.sender c.end_acks.new.self.sender
           (subst (λ (largest : Option ℕ). Continues (SendsNumber 0 (counted_if c.args.eliciting c.args.size)
-          c.args.space c.in-Ok-track.number largest) c.take_items.new.self.sender c.track.new.sender)
+          c.args.space c.in-Ok-track.number largest c.args.now) c.take_items.new.self.sender c.track.new.sender)
           (c.largest_of-largest.ensures ∙ ap largest_of c.deref.ensures.value) c.in-Ok-track.ensures.goes)
           c.end_acks.ensures.goes);
     }
