@@ -235,19 +235,19 @@ module _ {Q S M P : Type 0} where
       → GoesOn turn past after)
   event_on turn past event reply came heard arrived left discarded validated largest flight carried timed topped =
       record {
-    given = λ space n. given_on past space n event reply;
-    came = came;
-    heard = heard;
-    arrived = arrived;
-    left = left;
-    discarded = discarded;
-    validated = validated;
-    largest = largest;
-    flight = flight;
-    carried = carried;
-    timed = timed;
-    topped = topped;
-  }
+        given = λ space n. given_on past space n event reply;
+        came = came;
+        heard = heard;
+        arrived = arrived;
+        left = left;
+        discarded = discarded;
+        validated = validated;
+        largest = largest;
+        flight = flight;
+        carried = carried;
+        timed = timed;
+        topped = topped;
+      }
 
   pub ending_none : (ends : Endings) (past : History Q S M P) → GoesOn (ending ends) past past
   ending_none ends past = record {
@@ -575,13 +575,12 @@ module _ {Q S M P : Type 0} where
       }
 
       -- its datagram was transmitted before
-      pub leaves_then_sends : GoesOn (leaving size)
-          past between → SendsNumber 0 counted space n largest now between after
+      pub leaves_then_sends : GoesOn (leaving size) past between
+          → SendsNumber 0 counted space n largest now between after
           → SendsNumber size counted space n largest now past after
       leaves_then_sends first second = record {
-        goes = plain_then 0 size no_endings (packet_leaving 0 counted space n largest now) 0 size no_endings
-            past between
-            after (record {
+        goes = plain_then 0 size no_endings (packet_leaving 0 counted space n largest now) 0 size no_endings past
+            between after (record {
               arrives = none_first 0;
               leaves = none_first size;
               ended = λ there m gone is. is;

@@ -3,6 +3,10 @@ pub mod FlightLaws
 pub mod FrameLaws
 pub mod GoingLaws
 pub mod HonestLaws
+pub mod ItemLaws
+pub mod ItemMoves
+pub mod ItemRows
+pub mod ItemTies
 pub mod LargestLaws
 pub mod LogLaws
 pub mod NewLaws
@@ -11,6 +15,7 @@ pub mod PairRows
 pub mod PermitLaws
 pub mod QueueLaws
 pub mod QuietLaws
+pub mod RequeueLaws
 pub mod RisingLaws
 pub mod RunLaws
 pub mod StepTies

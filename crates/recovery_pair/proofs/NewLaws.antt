@@ -1,5 +1,5 @@
 -- New ends: nothing was sent or received.
-use Rattle.std.proofs.Common.{◌≡◌, ℕ, ◌-◌, ◌⊎◌, ◌||◌, inl, inr, Bool, true, false, List, [], Some, arith, refl, ◌∙◌}
+use Rattle.std.proofs.Common.{◌≡◌, ℕ, ◌-◌, ◌⊎◌, ◌||◌, inl, inr, Bool, true, false, List, [], Some, ap, arith, refl, ◌∙◌}
 use Rattle.rand_core.specs.Stream.{Stream}
 use Rattle.recovery_base.specs.declared.below.SpaceId.{SpaceId}
 use Rattle.recovery_history.specs.History.{History, begins, queue_model}
@@ -14,9 +14,12 @@ use Rattle.recovery_sender.specs.declared.sender.Sender.{Sender}
 use Rattle.recovery_pair.specs.declared.endpoint.Waiting.{Waiting}
 use Rattle.recovery_pair.specs.declared.steps.End.{End}
 use Rattle.recovery_pair.specs.declared.steps.End.TheVariants.{Client, Server}
+use Rattle.recovery_pair.specs.Carried.{CarriesItems}
 use Rattle.recovery_pair.specs.Pasts.{GoesOnQuietly, quiet}
 use Rattle.recovery_pair.specs.Tied.{Flows, IsLogged, IsTied, validated_first}
 use Rattle.recovery_pair.proofs.RisingLaws.{rises_new}
+use Rattle.recovery_pair.specs.Waits.{waiting_in}
+use Rattle.recovery_pair.proofs.ItemLaws.{call_carries}
 use Rattle.recovery_pair.proofs.QuietLaws.{call_quietly}
 
 none_received : {Q S M P : Type 0} (after : History Q S M P) → GoesOnQuietly [] after → (space : SpaceId) (n : ℕ)
@@ -76,8 +79,30 @@ module _ {F Q R C K S M P : Type 0} {f : _} {c : _} {q : _} {m : _} {r : _} wher
       let behind = goes.from (config_of side config) (start - 1) random [] new.came in
       record { start = start - 1; random = random; past = behind.0; came = behind.1; goes = behind.2 }
 
+module _ {F Q R C K S M : Type 0} {f : _} {c : _} {q : _} {m : _} {r : _} where
+  carries_first : (side : Side) (config : RecoveryConfig F) (start : ℕ) (random : Stream)
+      (sender : Sender F Q R C K S M (List ℕ) f c q m r) → IsNewSender side config start random sender → (end : End)
+      (waits : List Waiting) → waits ≡ [] → CarriesItems [] end (sender, waits)
+  carries_first side config start random sender new end waits none =
+      let goes = call_carries [] _ new.made sender new.does tt in
+      let behind = goes.from (config_of side config) (start - 1) random [] new.came in
+      record {
+        own = record {
+          config = config_of side config;
+          start = start - 1;
+          random = random;
+          past = behind.0;
+          came = behind.1;
+        };
+        held = λ measure zero_is space. (
+            let one = behind.2.taken measure space in
+            let two = ap (λ (all : List Waiting). waiting_in measure space all) none in omega (arith, one, two));
+        sent = λ measure space n. (let one = behind.2.sent measure space n in omega (arith, one));
+        lost = λ measure space. (let one = behind.2.lost measure space in omega (arith, one));
+      }
+
   pub new_tied : (config others : RecoveryConfig F) (start : ℕ) (random words : Stream)
-      (client server : Sender F Q R C K S M P f c q m r) → IsNewSender side.Client config start random client
+      (client server : Sender F Q R C K S M (List ℕ) f c q m r) → IsNewSender side.Client config start random client
       → IsNewSender side.Server others start words server → (client_waits server_waits : List Waiting)
       → client_waits ≡ [] → server_waits ≡ []
       → IsTied others.validated [] client server [] client_waits server_waits
@@ -115,4 +140,6 @@ module _ {F Q R C K S M P : Type 0} {f : _} {c : _} {q : _} {m : _} {r : _} wher
             };
         own_waits = λ measure space. omega arith;
         peer_waits = λ measure space. omega arith;
+        own_items = carries_first side.Client config start random client one Client client_waits none;
+        peer_items = carries_first side.Server others start words server two Server server_waits no_more;
       }

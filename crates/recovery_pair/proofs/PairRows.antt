@@ -27,7 +27,7 @@ use Rattle.recovery_pair.specs.Promises.Sends.{SendsWhatWaits}
 use Rattle.recovery_pair.specs.Promises.Window.{SendsWithinWindow}
 
 -- a packet without an ACK frame, and one with a frame up to this number
-abbrev no_frame : SentAck
+abbrev pub no_frame : SentAck
 no_frame = record { largest = None; delay = 0 }
 
 abbrev frame : ℕ → ℕ → SentAck

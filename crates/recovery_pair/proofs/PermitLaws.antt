@@ -24,17 +24,14 @@ pub packed_agrees : {F Q R C K S M P : Type 0} {f : _} {c : _} {q : _} {m : _} {
     (outcome : Outgoing) → said ≡ Ok Transmitted
     → PackTurn before after from space now size eliciting checked ranges delay outcome → PackWaits old new space outcome
     → AgreesAlready Idle eliciting checked said (Ok outcome)
-packed_agrees before after from space now size eliciting checked Idle ranges delay
-    said old new (Sent packet items window)
-    is
-    turn
-    waits =
+packed_agrees before after from space now size eliciting checked Idle ranges delay said old new
+    (Sent packet items window) is turn waits =
     (is, turn.elicits, turn.window_is)
 packed_agrees before after from space now size eliciting checked Idle ranges delay said old new (Failed refusal) is turn
     waits =
     is
-packed_agrees before after from space now size eliciting checked Idle ranges delay said old new (Held held)
-    is turn waits =
+packed_agrees before after from space now size eliciting checked Idle ranges delay said old new (Held held) is turn
+    waits =
     absurd waits
 packed_agrees before after from space now size eliciting checked Idle ranges delay said old new Nothing is turn waits =
     absurd waits

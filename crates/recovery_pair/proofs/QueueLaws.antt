@@ -1,5 +1,5 @@
 -- What was handed over was sent, or waits: step by step.
-use Rattle.std.proofs.Common.{◌≡◌, ℕ, ◌+◌, ◌≤◌, Bool, true, false, List, ◌∷◌, Option, Result, Ok, Err, refl, sym, subst, arith}
+use Rattle.std.proofs.Common.{◌≡◌, ℕ, ◌+◌, ◌≤◌, Bool, List, ◌∷◌, Option, Result, Ok, Err, refl, sym, subst, ◌∙◌, arith}
 use Rattle.std.specs.Prelude.{IfOk}
 use Rattle.std.specs.Global.{Vec}
 use Rattle.recovery_base.specs.declared.below.SpaceId.{SpaceId}
@@ -23,6 +23,7 @@ use Rattle.recovery_pair.specs.Promises.Sends.{SendsWhatWaits}
 use Rattle.recovery_pair.specs.Runs.{StepKeeps}
 use Rattle.recovery_pair.specs.Turns.{TurnsAt}
 use Rattle.recovery_pair.specs.Waits.{AreQueued, LocalWaits, LosesNone, LosesOne, waiting_in}
+use Rattle.recovery_pair.proofs.ItemTies.{ItemsKept}
 use Rattle.recovery_pair.proofs.LogLaws.{IsNoPacket}
 use Rattle.recovery_pair.proofs.StepTies.{ExchangeKept}
 use Rattle.recovery_pair.proofs.WaitLaws.{none_lost}
@@ -88,19 +89,26 @@ queue_turn Server Turns step answer each leaves client server client_after serve
       both.1,
     )
 
--- what keeps both keeps the promises
-pub step_keeps : {F Q R C K S M P : Type 0} {f : _} {c : _} {q : _} {m : _} {r : _}
-    (client server client_after server_after : Sender F Q R C K S M P f c q m r) (wire wire_after : List WirePacket)
+-- what keeps all keeps the promises
+pub step_keeps : {F Q R C K S M : Type 0} {f : _} {c : _} {q : _} {m : _} {r : _}
+    (client server client_after server_after : Sender F Q R C K S M (List ℕ) f c q m r)
+    (wire wire_after : List WirePacket)
     (client_waits server_waits client_waits_after server_waits_after : List Waiting) (step : PairStep)
     (answer : Result PairAnswer SenderError)
     → ExchangeKept client server wire step answer client_after server_after wire_after → AnswersLocally (step, answer)
     → QueueKept client_waits server_waits step answer client_waits_after server_waits_after
+    → ItemsKept (client, client_waits) (server, server_waits) step answer (client_after, client_waits_after)
+    (server_after, server_waits_after)
     → StepKeeps client server wire client_waits server_waits step answer client_after server_after wire_after
     client_waits_after server_waits_after
 step_keeps client server client_after server_after wire wire_after client_waits server_waits client_waits_after
-    server_waits_after step answer exchange local queue validated log tied =
+    server_waits_after step answer exchange local queue items validated log tied =
     let one = exchange validated log tied.ends in
-    let two = queue log tied.own_waits tied.peer_waits in (
+    let two = queue log tied.own_waits tied.peer_waits in
+    let ends = tied.ends in
+    let three = items log (λ space. ends.own.came.state_after.discarded space ∙ ends.logged.discarded space)
+    (λ space. ends.peer.came.state_after.discarded space ∙ ends.peer_logged.discarded space) tied.own_items
+    tied.peer_items in (
       record {
         honest = one.0.honest;
         delivered = one.0.delivered;
@@ -112,9 +120,16 @@ step_keeps client server client_after server_after wire wire_after client_waits 
         largest = one.0.largest;
         samples = one.0.samples;
         sends = two.0;
+        resends = three.0;
         local = local;
       },
-      record { ends = one.1; own_waits = two.1; peer_waits = two.2 },
+      record {
+        ends = one.1;
+        own_waits = two.1;
+        peer_waits = two.2;
+        own_items = three.1;
+        peer_items = three.2;
+      },
     )
 
 -- ---- a packet is sent

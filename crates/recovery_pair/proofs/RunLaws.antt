@@ -1,5 +1,5 @@
 -- What holds for each step holds for all that a source gives.
-use Rattle.std.proofs.Common.{◌≡◌, Bool, List, [], ◌∷◌, Result, ap}
+use Rattle.std.proofs.Common.{◌≡◌, ℕ, Bool, List, [], ◌∷◌, Result, ap}
 use Rattle.recovery_events.specs.Feeding.{TakesAll}
 use Rattle.recovery_sender.specs.declared.sender.Sender.{Sender}
 use Rattle.recovery_sender.specs.declared.sender.SenderError.{SenderError}
@@ -12,9 +12,9 @@ use Rattle.recovery_pair.specs.Runs.{HoldAlong, PairStepIntoSink, StepsOverSourc
 use Rattle.recovery_pair.specs.Tied.{IsTied}
 use Rattle.recovery_pair.specs.Timed.{HaveTimersByEvents}
 
-module _ {F Q R C K S M P : Type 0} {f : _} {c : _} {q : _} {m : _} {r : _} {A T : Type 0}
+module _ {F Q R C K S M : Type 0} {f : _} {c : _} {q : _} {m : _} {r : _} {A T : Type 0}
     (takes : T → Result PairAnswer SenderError → T → Type 0) (took : A → PairStep → A → Type 0)
-    (client server : A → Sender F Q R C K S M P f c q m r) (wire : A → List WirePacket)
+    (client server : A → Sender F Q R C K S M (List ℕ) f c q m r) (wire : A → List WirePacket)
     (client_waits server_waits : A → List Waiting) (sink : A → T)
     (each : (old : A) (step : PairStep) (new : A) → took old step new
     → PairStepIntoSink (client old) (server old) (wire old) (client_waits old) (server_waits old) takes (sink old) step

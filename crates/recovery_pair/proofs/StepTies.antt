@@ -35,7 +35,7 @@ use Rattle.recovery_pair.specs.declared.steps.WirePacket.{WirePacket}
 use Rattle.recovery_pair.specs.Frames.{IsSoundFrame}
 use Rattle.recovery_pair.specs.Logs.{IsAt, PairEvent, PairLog, LoggedPacket, ack_of, deliveries_of, numbers_at, other_end, sends_of, time_sent, was_discarded, wire_of}
 use Rattle.recovery_pair.specs.Flights.{counted_if, no_numbers}
-use Rattle.recovery_pair.specs.Pasts.{AcksWithin, Continues, GoesOn, GoesOnQuietly, Endings, HearsNumber, IsHeardBy, IsSince, SampledBy, SamplesSince, SendsWithAck, EndTurn, WereSentUnder, endings_by_ack, endings_by_fate, hearing, packet_leaving, quiet}
+use Rattle.recovery_pair.specs.Pasts.{AcksWithin, Continues, GoesOn, GoesOnQuietly, Endings, HasPast, HearsNumber, IsHeardBy, IsSince, SampledBy, SamplesSince, SendsWithAck, EndTurn, WereSentUnder, endings_by_ack, endings_by_fate, hearing, packet_leaving, quiet}
 use Rattle.recovery_pair.specs.Permits.{FitsChecked}
 use Rattle.recovery_pair.specs.Promises.Arrivals.{ArrivesAsSent, Delivers, IsArrival, IsFateBy, IsFirstDelivery}
 use Rattle.recovery_pair.specs.Promises.DeliveredOnce.{AcksDelivered}
@@ -48,7 +48,7 @@ use Rattle.recovery_pair.specs.Promises.RttSamples.{IsSampleAt, SamplesRoundTrip
 use Rattle.recovery_pair.specs.Promises.Threefold.{ServerSendsThreefold}
 use Rattle.recovery_pair.specs.Promises.Window.{SendsWithinWindow}
 use Rattle.recovery_pair.specs.Rising.{RisesAbove}
-use Rattle.recovery_pair.specs.Tied.{Flows, HasPast, IsLogged, IsOnWire, IsTiedAt, Travels, sent_as}
+use Rattle.recovery_pair.specs.Tied.{Flows, IsLogged, IsOnWire, IsTiedAt, Travels, sent_as}
 use Rattle.recovery_pair.specs.Turns.{HearTurn, HearsPacket, SendsPacket, TurnsAt, local_turn, reply_of}
 use Rattle.recovery_pair.proofs.BoundLaws.{exceeds_by, within_on}
 use Rattle.recovery_pair.proofs.FlightLaws.{flight_counted}
@@ -434,8 +434,7 @@ module _ {F Q R C K S M P : Type 0} {f : _} {c : _} {q : _} {m : _} {r : _} (end
             is.sound own.2 tied.out tied.back tied.wired;
         within = within_on log event (fits_by window is.fits) tied.within;
         own_rise = rises_sent log size (counted_if packet.eliciting size) now end tied.own.past own.0 tied.peer.past
-            packet
-            wire is.sender is.sound own.2 tied.out tied.back tied.wired tied.own_rise tied.peer_rise;
+            packet wire is.sender is.sound own.2 tied.out tied.back tied.wired tied.own_rise tied.peer_rise;
         peer_rise = rises_there log size (counted_if packet.eliciting size) now end tied.own.past own.0 tied.peer.past
             packet wire is.sender is.sound own.2 tied.out tied.back tied.wired tied.own_rise tied.peer_rise;
       }

@@ -1,3 +1,4 @@
+pub mod Carried
 pub mod Flights
 pub mod Frames
 pub mod Logs

@@ -268,6 +268,15 @@ module _ {Q S M P : Type 0} where
 -- ---- the same of a sender
 
 module _ {F Q R C K S M P : Type 0} {f : _} {c : _} {q : _} {m : _} {r : _} where
+  -- a past led to its state
+  pub record HasPast (sender : Sender F Q R C K S M P f c q m r) : Type 0 where
+    pub config : RecoveryConfig F
+    pub start : ℕ
+    pub random : Stream
+    pub past : History Q S M P
+    pub came : ReachedBy (begins f.built c.words (queue_model q.contents q.words q.blank) config start random) past
+        (state_in sender)
+
   -- each past of the old state goes on so to a past of the new one
   pub record Continues (Goes : History Q S M P → History Q S M P → Type 0) (old new : Sender F Q R C K S M P f c q m r)
       : Type 0 where

@@ -10,6 +10,7 @@ use Rattle.recovery_pair.specs.Promises.Excess.{ExceedsByProbes}
 use Rattle.recovery_pair.specs.Promises.LargestAcked.{AcksLargest}
 use Rattle.recovery_pair.specs.Promises.Locals.{AnswersLocally}
 use Rattle.recovery_pair.specs.Promises.NeverAccused.{NeverAccuses}
+use Rattle.recovery_pair.specs.Promises.Resends.{ResendsWhatIsLost}
 use Rattle.recovery_pair.specs.Promises.RttSamples.{SamplesRoundTrips}
 use Rattle.recovery_pair.specs.Promises.Sends.{SendsWhatWaits}
 use Rattle.recovery_pair.specs.Promises.Threefold.{ServerSendsThreefold}
@@ -21,6 +22,7 @@ pub mod Excess
 pub mod LargestAcked
 pub mod Locals
 pub mod NeverAccused
+pub mod Resends
 pub mod RttSamples
 pub mod Sends
 pub mod Threefold
@@ -54,5 +56,8 @@ pub record KeepsPromises (validated : Bool) (log : PairLog) (event : PairEvent) 
   -- An endpoint has nothing to send in a space only once it has sent there no less than was passed to it, by every
   -- measure of the items of a packet (RFC 9000, 13).
   pub sends : SendsWhatWaits log event
+  -- Nothing is lost: an endpoint has nothing to send in a space with keys only once it has sent there what was passed
+  -- to it, and once more what it reported as lost, by every measure of items that adds up (RFC 9000, 13.3).
+  pub resends : ResendsWhatIsLost log event
   -- A step of one endpoint has an answer of its kind, never another (RFC 9002, 6.2 and 6.4).
   pub local : AnswersLocally event

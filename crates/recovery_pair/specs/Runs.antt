@@ -1,5 +1,5 @@
 -- A run of two ends over a source of steps: the promises hold at each.
-use Rattle.std.specs.Prelude.{Bool, List, [], ◌∷◌, Result}
+use Rattle.std.specs.Prelude.{ℕ, Bool, List, [], ◌∷◌, Result}
 use Rattle.recovery_sender.specs.declared.sender.Sender.{Sender}
 use Rattle.recovery_sender.specs.declared.sender.SenderError.{SenderError}
 use Rattle.recovery_pair.specs.declared.endpoint.Waiting.{Waiting}
@@ -23,12 +23,12 @@ abbrev pub log_after : PairLog → List PairStep → List (Result PairAnswer Sen
 log_after log (step ∷ steps) (answer ∷ answers) = log_after ((step, answer) ∷ log) steps answers
 log_after log steps answers = log
 
-module _ {F Q R C K S M P : Type 0} {f : _} {c : _} {q : _} {m : _} {r : _}
-    (client server : Sender F Q R C K S M P f c q m r) (wire : List WirePacket)
+module _ {F Q R C K S M : Type 0} {f : _} {c : _} {q : _} {m : _} {r : _}
+    (client server : Sender F Q R C K S M (List ℕ) f c q m r) (wire : List WirePacket)
     (client_waits server_waits : List Waiting) where
   -- a step keeps the promises, and the tie of the log
-  abbrev pub StepKeeps : PairStep → Result PairAnswer SenderError → Sender F Q R C K S M P f c q m r
-      → Sender F Q R C K S M P f c q m r → List WirePacket → List Waiting → List Waiting → Type 0
+  abbrev pub StepKeeps : PairStep → Result PairAnswer SenderError → Sender F Q R C K S M (List ℕ) f c q m r
+      → Sender F Q R C K S M (List ℕ) f c q m r → List WirePacket → List Waiting → List Waiting → Type 0
   StepKeeps step answer client_after server_after wire_after client_waits_after server_waits_after =
       (validated : Bool) (log : PairLog) → IsTied validated log client server wire client_waits server_waits
       → KeepsPromises validated log (step, answer) × IsTied validated ((step, answer) ∷ log) client_after server_after
@@ -36,7 +36,8 @@ module _ {F Q R C K S M P : Type 0} {f : _} {c : _} {q : _} {m : _} {r : _}
 
   -- its answer is put into a sink
   pub record PairStepIntoSink {T : Type 0} (takes : T → Result PairAnswer SenderError → T → Type 0) (before : T)
-      (step : PairStep) (client_after server_after : Sender F Q R C K S M P f c q m r) (wire_after : List WirePacket)
+      (step : PairStep) (client_after server_after : Sender F Q R C K S M (List ℕ) f c q m r)
+      (wire_after : List WirePacket)
       (client_waits_after server_waits_after : List Waiting) (behind : T) : Type 0 where
     pub answer : Result PairAnswer SenderError
     pub keeps : StepKeeps step answer client_after server_after wire_after client_waits_after server_waits_after
@@ -46,7 +47,8 @@ module _ {F Q R C K S M P : Type 0} {f : _} {c : _} {q : _} {m : _} {r : _}
   -- these steps were given, and these answers taken
   pub record StepsOverSource (AreGiven : List PairStep → Type 0)
       (IsTaken : List (Result PairAnswer SenderError) → Type 0)
-      (client_after server_after : Sender F Q R C K S M P f c q m r) (wire_after : List WirePacket)
+      (client_after server_after : Sender F Q R C K S M (List ℕ) f c q m r)
+      (wire_after : List WirePacket)
       (client_waits_after server_waits_after : List Waiting) : Type 0 where
     pub steps : List PairStep
     pub answers : List (Result PairAnswer SenderError)

@@ -1,19 +1,15 @@
 -- The log of two ends is tied to what their senders know: what came is on the wire, and what is on the wire went out.
 use Rattle.std.specs.Prelude.{◌≡◌, ℕ, ◌<◌, ◌≤◌, ◌⊎◌, Bool, true, List, [], ◌∷◌, map, is_some}
 use Rattle.std.specs.List.{AllByRecursion}
-use Rattle.rand_core.specs.Stream.{Stream}
 use Rattle.recovery_base.specs.declared.below.SpaceId.{SpaceId}
 use Rattle.recovery_base.specs.Units.{number_limit}
 use Rattle.recovery_losses.specs.Frames.{IsInAckRanges}
-use Rattle.recovery_history.specs.declared.config.RecoveryConfig.{RecoveryConfig}
-use Rattle.recovery_history.specs.History.{History, begins, queue_model}
+use Rattle.recovery_history.specs.History.{History}
 use Rattle.recovery_history.specs.Promises.Acknowledged.{WasReceived}
 use Rattle.recovery_history.specs.Promises.Datagrams.{is_validated}
 use Rattle.recovery_history.specs.Promises.NewNumbers.{came_in, is_discarded}
-use Rattle.recovery_history.specs.Reachability.{ReachedBy}
 use Rattle.recovery_paths.specs.declared.path_pair.PathName.TheVariants.{Current}
 use Rattle.recovery_sender.specs.Promises.Lost.{sent_at}
-use Rattle.recovery_sender.specs.Senders.{state_in}
 use Rattle.recovery_sender.specs.declared.sender.Sender.{Sender}
 use Rattle.recovery_pair.specs.declared.endpoint.Waiting.{Waiting}
 use Rattle.recovery_pair.specs.declared.steps.End.{End}
@@ -22,8 +18,9 @@ use Rattle.recovery_pair.specs.declared.steps.WirePacket.{WirePacket}
 use Rattle.recovery_pair.specs.Flights.{Numbers, flight_of, largest_window, no_numbers}
 use Rattle.recovery_pair.specs.Frames.{IsSoundFrame}
 use Rattle.recovery_pair.specs.Logs.{PairLog, LoggedPacket, bytes_arrived, bytes_sent, deliveries_of, has_validated, numbers_at, other_end, sends_of, time_sent, was_discarded, wire_of}
+use Rattle.recovery_pair.specs.Carried.{CarriesItems}
 use Rattle.recovery_pair.specs.Waits.{AreQueued}
-use Rattle.recovery_pair.specs.Pasts.{Came, WasSentUnder, bytes_received, bytes_transmitted, flight_in, largest_came}
+use Rattle.recovery_pair.specs.Pasts.{Came, HasPast, WasSentUnder, bytes_received, bytes_transmitted, flight_in, largest_came}
 use Rattle.recovery_pair.specs.Promises.Delays.{largest_new}
 use Rattle.recovery_pair.specs.Rising.{AcksRise}
 
@@ -99,14 +96,6 @@ pub record IsLogged {Q S M P : Type 0} (validated : Bool) (log : PairLog) (end :
   pub flight : (gone : Numbers) → flight_of end (λ window. true) gone log ≤ flight_in gone past
 
 module _ {F Q R C K S M P : Type 0} {f : _} {c : _} {q : _} {m : _} {r : _} where
-  pub record HasPast (sender : Sender F Q R C K S M P f c q m r) : Type 0 where
-    pub config : RecoveryConfig F
-    pub start : ℕ
-    pub random : Stream
-    pub past : History Q S M P
-    pub came : ReachedBy (begins f.built c.words (queue_model q.contents q.words q.blank) config start random) past
-        (state_in sender)
-
   -- ---- both ends, as one of them sees it
 
   pub record IsTiedAt (validated : Bool) (end : End) (log : PairLog) (here there : Sender F Q R C K S M P f c q m r)
@@ -123,9 +112,12 @@ module _ {F Q R C K S M P : Type 0} {f : _} {c : _} {q : _} {m : _} {r : _} wher
     pub own_rise : AcksRise end own.past peer.past wire
     pub peer_rise : AcksRise (other_end end) peer.past own.past wire
 
-  -- and what waits at each
-  pub record IsTied (validated : Bool) (log : PairLog) (client server : Sender F Q R C K S M P f c q m r)
+-- and what waits at each
+module _ {F Q R C K S M : Type 0} {f : _} {c : _} {q : _} {m : _} {r : _} where
+  pub record IsTied (validated : Bool) (log : PairLog) (client server : Sender F Q R C K S M (List ℕ) f c q m r)
       (wire : List WirePacket) (client_waits server_waits : List Waiting) : Type 0 where
     pub ends : IsTiedAt validated Client log client server wire
     pub own_waits : AreQueued log Client client_waits
     pub peer_waits : AreQueued log Server server_waits
+    pub own_items : CarriesItems log Client (client, client_waits)
+    pub peer_items : CarriesItems log Server (server, server_waits)

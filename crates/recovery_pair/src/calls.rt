@@ -1,5 +1,6 @@
 //! The calls of a sender that an end makes, and how each continues the sender's past.
 ghost use Rattle.std.specs.Prelude.{◌≡◌, ◌≢◌, [], ◌∷◌, true, IfOk, MatchResult, Some};
+ghost use Rattle.recovery_pair.specs.Carried.{Carries, CarriesNone, losing, lost_by_ack, lost_by_timeout, sending_with, taking};
 ghost use Rattle.recovery_pair.specs.Flights.{counted_if};
 ghost use Rattle.recovery_pair.specs.Frames.{IsFrameFor};
 ghost use Rattle.recovery_pair.specs.Pasts.{Continues, GoesOn, GoesOnQuietly, HearsNumber, NoAccusation, SampledBy, SendsNumber, AcksWithin, arm_told, arriving, discarding, ending, endings_by_ack, heard_of, no_endings, validating};
@@ -112,6 +113,7 @@ where
     ensures said { result ≡ said_by sender.old space now size eliciting }
     ensures fits { FitsIfPermitted sender.old space size eliciting result }
     ensures timer { KeepsTimer sender.old sender.new }
+    ensures items { CarriesNone sender.old sender.new }
 {
     sender.transmit(now, size, space, eliciting)
 }
@@ -126,6 +128,9 @@ where
     R: Rng + Drop,
     ensures goes { Continues GoesOnQuietly sender.old sender.new }
     ensures timer { KeepsTimer sender.old sender.new }
+    ensures items { MatchResult result
+        (λ queue. Carries (taking space queue) sender.old sender.new)
+        (λ refused. CarriesNone sender.old sender.new) }
 {
     if sender.variables().is_probe_due(space) {
         return sender.probe(space, false, ());
@@ -162,6 +167,9 @@ where
         now) sender.old sender.new)
         (λ refused. Continues GoesOnQuietly sender.old sender.new) }
     ensures timer { KeepsTimer sender.old sender.new }
+    ensures items { MatchResult result
+        (λ number. Carries (sending_with space number queue) sender.old sender.new)
+        (λ refused. CarriesNone sender.old sender.new) }
 {
     let counted = counted_if(eliciting, size);
     match sender.send(space, now, counted, eliciting, largest, queue, ()) {
@@ -178,6 +186,7 @@ where
     R: Rng + Drop,
     ensures goes { Continues GoesOnQuietly sender.old sender.new }
     ensures timer { KeepsTimer sender.old sender.new }
+    ensures items { CarriesNone sender.old sender.new }
 {
     let _ = sender.on_event(Event::AcksSent { space });
 }
@@ -189,6 +198,7 @@ where
     R: Rng + Drop,
     ensures goes { Continues GoesOnQuietly sender.old sender.new }
     ensures timer { KeepsTimer sender.old sender.new }
+    ensures items { CarriesNone sender.old sender.new }
 {
     let _ = sender.on_event(Event::AckDelayTimeout { space });
 }
@@ -203,6 +213,7 @@ where
     R: Rng + Drop,
     ensures goes { TriesTurn (arriving size) sender.old sender.new result }
     ensures timer { KeepsTimer sender.old sender.new }
+    ensures items { CarriesNone sender.old sender.new }
 {
     sender.on_datagram(u64::from(size))
 }
@@ -231,6 +242,7 @@ where
     ensures goes { Continues (HearsNumber now 0 space number (heard_of result) no_endings)
         sender.old sender.new }
     ensures timer { KeepsTimer sender.old sender.new }
+    ensures items { CarriesNone sender.old sender.new }
 {
     let received = Event::Received {
         space,
@@ -259,6 +271,7 @@ where
     ensures within { AcksWithin packet.now.ranges.items result }
     ensures sampled { SampledBy packet.now.space now packet.now.ranges.items sender.old result }
     ensures timer { KeepsTimer sender.old sender.new }
+    ensures items { Carries (losing (lost_by_ack packet.now.space result)) sender.old sender.new }
 {
     if packet.ranges.is_empty() {
         return AckOutcome::NoFrame;
@@ -284,6 +297,7 @@ where
     R: Rng + Drop,
     ensures goes { Continues (GoesOn (timeout_turn result)) sender.old sender.new }
     ensures timer { KeepsTimer sender.old sender.new }
+    ensures items { Carries (losing (lost_by_timeout result)) sender.old sender.new }
 {
     sender.on_timeout(now)
 }
@@ -295,6 +309,7 @@ where
     R: Rng + Drop,
     ensures goes { Continues (GoesOn validating) sender.old sender.new }
     ensures timer { KeepsTimer sender.old sender.new }
+    ensures items { CarriesNone sender.old sender.new }
 {
     sender.on_address_validated();
 }
@@ -306,6 +321,7 @@ where
     R: Rng + Drop,
     ensures goes { Continues GoesOnQuietly sender.old sender.new }
     ensures timer { KeepsTimer sender.old sender.new }
+    ensures items { CarriesNone sender.old sender.new }
 {
     sender.on_handshake_keys();
 }
@@ -317,6 +333,7 @@ where
     R: Rng + Drop,
     ensures goes { Continues GoesOnQuietly sender.old sender.new }
     ensures timer { KeepsTimer sender.old sender.new }
+    ensures items { CarriesNone sender.old sender.new }
 {
     sender.on_handshake_confirmed();
 }
@@ -332,6 +349,7 @@ where
     R: Rng + Drop,
     ensures goes { TriesTurn (discarding space) sender.old sender.new result }
     ensures timer { KeepsTimer sender.old sender.new }
+    ensures items { CarriesNone sender.old sender.new }
 {
     sender.discard(space, now)
 }

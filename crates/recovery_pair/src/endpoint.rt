@@ -1,6 +1,7 @@
 //! An endpoint of a connection: a sender with its caller.
-ghost use Rattle.std.specs.Prelude.{◌≡◌, ◌+◌, ◌<◌, ◌≤◌, ℕ, List, IfOk, MatchResult, false, length, [], ◌∷◌, ◌++◌};
+ghost use Rattle.std.specs.Prelude.{◌≡◌, ◌+◌, ◌<◌, ◌≤◌, ℕ, List, IfOk, MatchResult, None, Ok, false, length, [], ◌∷◌, ◌++◌};
 ghost use Rattle.std.specs.Vec.{vec_len, vec_capacity};
+ghost use Rattle.recovery_pair.specs.Carried.{CarriesNone, Exchanges, MovesItems, MovesNone, MovesSent, TakesItems, hands_by, lost_by_fate, lost_by_local, none_lost};
 ghost use Rattle.recovery_pair.specs.Pasts.{Continues, GoesOn, GoesOnQuietly};
 ghost use Rattle.recovery_pair.specs.Turns.{HearTurn, PackTurn, SendTurn, local_turn};
 ghost use Rattle.recovery_pair.specs.Permits.{IsIdle, PermitsOutcome};
@@ -81,6 +82,7 @@ fn take_waiting(waiting: &mut Vec<Waiting>, space: SpaceId, repeated: ItemQueue)
     ensures loses { LosesOne waiting.old.items waiting.new.items space result }
     ensures len { vec_len waiting.new ≤ vec_len waiting.old }
     ensures capacity { vec_capacity waiting.new ≡ vec_capacity waiting.old }
+    ensures items { Exchanges waiting.old.items waiting.new.items space repeated result }
 {
     if !repeated.items().is_empty() {
         return repeated;
@@ -124,7 +126,7 @@ where
     }
 
     /// Sends one datagram, if there is something to send and it may be sent. An `Err` changes nothing.
-    #[tactic(auto, using(crate::proofs::QuietLaws::same_quietly))]
+    #[tactic(auto, using(crate::proofs::QuietLaws::same_quietly, crate::proofs::ItemMoves::same_moves))]
     pub(crate) fn send(
         &mut self,
         alloc: Global,
@@ -137,6 +139,8 @@ where
         ensures waits { SendWaits self.old.waiting.items self.new.waiting.items space result }
         ensures permits { PermitsOutcome space now size result self.old.sender }
         ensures timer { KeepsTimer self.old.sender self.new.sender }
+        ensures items { MovesSent space result (self.old.sender, self.old.waiting.items)
+            (self.new.sender, self.new.waiting.items) }
     {
         let eliciting = self.has_items(space);
         let ack = match frame(alloc, &self.sender, space, now) {
@@ -177,6 +181,8 @@ where
             window ack.ranges.items ack.delay result }
         ensures waits { PackWaits self.old.waiting.items self.new.waiting.items space result }
         ensures timer { KeepsTimer self.old.sender self.new.sender }
+        ensures items { MovesSent space (Ok result) (self.old.sender, self.old.waiting.items)
+            (self.new.sender, self.new.waiting.items) }
     {
         let TakenItems { queue, items, told } = match self.take_items(alloc, space) {
             Ok(taken) => taken,
@@ -226,6 +232,11 @@ where
             (λ taken. LosesOne self.old.waiting.items self.new.waiting.items space taken.queue)
             (λ refused. LosesNone self.old.waiting.items self.new.waiting.items) }
         ensures timer { KeepsTimer self.old.sender self.new.sender }
+        ensures items { MatchResult result
+            (λ taken. TakesItems space taken.queue (self.old.sender, self.old.waiting.items)
+            (self.new.sender, self.new.waiting.items))
+            (λ refused. MovesNone (self.old.sender, self.old.waiting.items)
+            (self.new.sender, self.new.waiting.items)) }
     {
         let repeated = match contents(&mut self.sender, space) {
             Ok(queue) => queue,
@@ -254,6 +265,7 @@ where
         requires room { vec_len self.old.waiting < vec_capacity self.old.waiting }
         ensures goes { self.new.sender ≡ self.old.sender }
         ensures waits { GainsOne self.old.waiting.items self.new.waiting.items space queue }
+        ensures items { Exchanges self.old.waiting.items self.new.waiting.items space queue [] }
     {
         self.waiting.push_reserved(Waiting { space, queue });
     }
@@ -262,6 +274,7 @@ where
     fn end_acks(&mut self, space: SpaceId)
         ensures goes { Continues GoesOnQuietly self.old.sender self.new.sender }
         ensures timer { KeepsTimer self.old.sender self.new.sender }
+        ensures items { CarriesNone self.old.sender self.new.sender }
         ensures waits { self.new.waiting.items ≡ self.old.waiting.items }
     {
         end_acks(&mut self.sender, space);
@@ -271,7 +284,7 @@ where
     }
 
     /// Takes a packet that arrives. An `Err` changes nothing.
-    #[tactic(auto, using(crate::proofs::QuietLaws::same_quietly))]
+    #[tactic(auto, using(crate::proofs::QuietLaws::same_quietly, crate::proofs::ItemMoves::same_moves))]
     pub(crate) fn hear(
         &mut self,
         alloc: Global,
@@ -281,6 +294,9 @@ where
         ensures goes { HearTurn self.old.sender self.new.sender packet.now now result }
         ensures waits { LosesNone self.old.waiting.items self.new.waiting.items }
         ensures timer { KeepsTimer self.old.sender self.new.sender }
+        ensures items { MovesItems None None (lost_by_fate packet.now.space result)
+            (self.old.sender, self.old.waiting.items)
+            (self.new.sender, self.new.waiting.items) }
     {
         let items = match copied(alloc, &packet.items) {
             Ok(items) => items,
@@ -311,6 +327,7 @@ where
     fn plan_ack(&mut self, space: SpaceId, now: Instant, arm: bool)
         ensures goes { Continues GoesOnQuietly self.old.sender self.new.sender }
         ensures timer { KeepsTimer self.old.sender self.new.sender }
+        ensures items { CarriesNone self.old.sender self.new.sender }
         ensures waits { self.new.waiting.items ≡ self.old.waiting.items }
     {
         if arm && space == SpaceId::Data {
@@ -325,6 +342,9 @@ where
     fn hand(&mut self, space: SpaceId, items: Vec<u64>) -> Result<PairAnswer, SenderError>
         ensures goes { self.new.sender ≡ self.old.sender }
         ensures answer { IfOk result IsDone }
+        ensures items { MovesItems (hands_by (LocalStep.Hand space items) result) None none_lost
+            (self.old.sender, self.old.waiting.items)
+            (self.new.sender, self.new.waiting.items) }
         ensures waits { HandWaits self.old.waiting.items self.new.waiting.items space items.items
             result }
     {
@@ -338,13 +358,16 @@ where
     }
 
     /// Makes a step of this endpoint.
-    #[tactic(auto, using(crate::proofs::QuietLaws::same_quietly))]
+    #[tactic(auto, using(crate::proofs::QuietLaws::same_quietly, crate::proofs::ItemMoves::same_moves))]
     pub(crate) fn local(&mut self, step: LocalStep) -> Result<PairAnswer, SenderError>
         ensures goes { Continues (GoesOn (local_turn step result)) self.old.sender
             self.new.sender }
         ensures answer { IfOk result (IsLocalAnswer step) }
         ensures waits { LocalWaits self.old.waiting.items self.new.waiting.items step result }
         ensures timer { KeepsTimer self.old.sender self.new.sender }
+        ensures items { MovesItems (hands_by step result) None (lost_by_local step result)
+            (self.old.sender, self.old.waiting.items)
+            (self.new.sender, self.new.waiting.items) }
     {
         match step {
             LocalStep::Hand { space, items } => self.hand(space, items),
@@ -373,10 +396,11 @@ where
     }
 
     /// Requires an ACK at once if the ACK delay timer is due.
-    #[tactic(auto, using(crate::proofs::QuietLaws::same_quietly))]
+    #[tactic(auto, using(crate::proofs::QuietLaws::same_quietly, crate::proofs::ItemMoves::same_moves))]
     fn end_delay(&mut self, now: Instant) -> PairAnswer
         ensures goes { Continues GoesOnQuietly self.old.sender self.new.sender }
         ensures timer { KeepsTimer self.old.sender self.new.sender }
+        ensures items { CarriesNone self.old.sender self.new.sender }
         ensures answer { IsDoneOrNothing result }
         ensures waits { self.new.waiting.items ≡ self.old.waiting.items }
     {

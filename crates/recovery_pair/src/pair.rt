@@ -1,7 +1,8 @@
 //! Two ends of a connection, and the wire between them.
-ghost use Rattle.std.specs.Prelude.{◌≡◌, ◌≤◌, [], ◌∷◌, IfOk};
+ghost use Rattle.std.specs.Prelude.{◌≡◌, ◌≤◌, [], ◌∷◌, IfOk, None};
 ghost use Rattle.recovery_base.specs.Units.{number_limit};
 ghost use Rattle.recovery_packet_numbers.specs.Skips.{IsSkips};
+ghost use Rattle.recovery_pair.specs.Carried.{MovesItems, MovesSent, hands_by, lost_by_fate, lost_by_local};
 ghost use Rattle.recovery_pair.specs.Pasts.{Continues, GoesOn};
 ghost use Rattle.recovery_pair.specs.Permits.{HoldsAt, PermitsAnswer, PermitsOutcome, SendsAsPermitted};
 ghost use Rattle.recovery_pair.specs.Promises.Locals.{IsLocalAnswer};
@@ -67,6 +68,11 @@ where
         server.old.sender }
     ensures timer { TurnsAt end KeepsTimer client.old.sender server.old.sender client.new.sender
         server.new.sender }
+    ensures items { TurnsAt end (MovesSent space result)
+        (client.old.sender, client.old.waiting.items)
+        (server.old.sender, server.old.waiting.items)
+        (client.new.sender, client.new.waiting.items)
+        (server.new.sender, server.new.waiting.items) }
 {
     match end {
         End::Client => client.send(alloc, end, space, now, size),
@@ -93,6 +99,11 @@ where
         server.new.waiting.items }
     ensures timer { TurnsAt to KeepsTimer client.old.sender server.old.sender client.new.sender
         server.new.sender }
+    ensures items { TurnsAt to (MovesItems None None (lost_by_fate packet.now.space result))
+        (client.old.sender, client.old.waiting.items)
+        (server.old.sender, server.old.waiting.items)
+        (client.new.sender, client.new.waiting.items)
+        (server.new.sender, server.new.waiting.items) }
 {
     match to {
         End::Client => client.hear(alloc, packet, now),
@@ -118,6 +129,11 @@ where
         server.new.waiting.items }
     ensures timer { TurnsAt end KeepsTimer client.old.sender server.old.sender client.new.sender
         server.new.sender }
+    ensures items { TurnsAt end (MovesItems (hands_by step result) None (lost_by_local step result))
+        (client.old.sender, client.old.waiting.items)
+        (server.old.sender, server.old.waiting.items)
+        (client.new.sender, client.new.waiting.items)
+        (server.new.sender, server.new.waiting.items) }
 {
     match end {
         End::Client => client.local(step),

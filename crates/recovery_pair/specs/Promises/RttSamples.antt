@@ -1,5 +1,5 @@
--- An RTT sample that an endpoint takes when an ACK frame arrives is the time since it sent a packet. The number of that
--- packet is the largest that the frame newly acknowledges (RFC 9002, 5.1).
+-- An RTT sample that an endpoint takes when an ACK frame arrives is the time since it sent a packet (RFC 9002, 5.1).
+-- The number of that packet is the largest that the frame newly acknowledges.
 use Rattle.std.specs.Prelude.{◌≡◌, ℕ, ◌-◌, ◌≤◌, List, IfSome, Ok}
 use Rattle.recovery_base.specs.declared.below.SpaceId.{SpaceId}
 use Rattle.recovery_losses.specs.Losses.{IsOneOf}

@@ -1,4 +1,5 @@
 use Rattle.recovery_pair.proofs.QuietLaws.{call_quietly}
+use Rattle.recovery_pair.proofs.ItemLaws.{call_carries}
 use Rattle.recovery_pair.proofs.calls.confirm.Goals as goal
 
 pub returns-clause-goes : goal.returns-clause-goes
@@ -7,3 +8,7 @@ returns-clause-goes g c = call_quietly _ _ c.args.sender.now c.on_handshake_conf
 
 pub returns-clause-timer : goal.returns-clause-timer
 returns-clause-timer g c = λ has. c.on_handshake_confirmed.ensures.running
+
+pub returns-clause-items : goal.returns-clause-items
+returns-clause-items g c = call_carries _ _ c.args.sender.now c.on_handshake_confirmed.new.self
+    c.on_handshake_confirmed.ensures tt

@@ -2,6 +2,7 @@ use Rattle.std.proofs.Common.{false, refl}
 use Rattle.recovery_pair.proofs.QuietLaws.{pending_quietly, probe_quietly}
 use Rattle.recovery_events.specs.declared.event.Event.TheVariants.{TakePending}
 use Rattle.recovery_pair.proofs.TimedLaws.{event_timer, probe_timer}
+use Rattle.recovery_pair.proofs.ItemLaws.{failed_carries, pending_carries, probe_matches}
 use Rattle.recovery_pair.proofs.calls.contents.Goals as goal
 
 pub returns-then-is_probe_due-clause-goes : goal.returns-then-is_probe_due-clause-goes
@@ -30,3 +31,15 @@ returns-in-Ok-Queue-clause-timer g c = event_timer c.args.sender.now c.on_event.
 pub returns-in-Err-clause-timer : goal.returns-in-Err-clause-timer
 returns-in-Err-clause-timer g c = event_timer c.args.sender.now c.on_event.new.self (TakePending c.args.space) tt
     refl c.on_event.result c.on_event.ensures
+
+pub returns-in-Ok-Queue-clause-items : goal.returns-in-Ok-Queue-clause-items
+returns-in-Ok-Queue-clause-items g c = pending_carries c.args.space c.in-Ok-Queue.queue c.args.sender.now
+    c.on_event.new.self (rw c.in-Ok-Queue.field-0-is at c.in-Ok-Queue.ensures)
+
+pub returns-in-Err-clause-items : goal.returns-in-Err-clause-items
+returns-in-Err-clause-items g c = failed_carries (TakePending c.args.space) c.args.sender.now c.on_event.new.self
+    (λ refusal. tt) c.in-Err.refused c.in-Err.ensures
+
+pub returns-then-is_probe_due-clause-items : goal.returns-then-is_probe_due-clause-items
+returns-then-is_probe_due-clause-items g c = probe_matches c.args.space false tt c.probe.result c.args.sender.now
+    c.probe.new.self c.probe.ensures

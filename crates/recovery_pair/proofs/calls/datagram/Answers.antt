@@ -3,6 +3,7 @@ use Rattle.recovery_pair.specs.Pasts.{arriving}
 use Rattle.recovery_pair.proofs.GoingLaws.{arrives_event}
 use Rattle.recovery_pair.proofs.PacketLaws.{tries_event}
 use Rattle.recovery_pair.proofs.TimedLaws.{tries_timer}
+use Rattle.recovery_pair.proofs.ItemLaws.{tries_carries}
 use Rattle.recovery_pair.proofs.calls.datagram.Goals as goal
 
 pub returns-clause-goes : goal.returns-clause-goes
@@ -13,3 +14,7 @@ returns-clause-goes g c = rw (← c.from.ensures) (tries_event _ (arriving c.fro
 pub returns-clause-timer : goal.returns-clause-timer
 returns-clause-timer g c = tries_timer c.args.sender.now c.on_datagram.new.self _ _ c.on_datagram.result
     c.on_datagram.ensures.steps c.on_datagram.ensures.refused
+
+pub returns-clause-items : goal.returns-clause-items
+returns-clause-items g c = tries_carries _ _ c.args.sender.now c.on_datagram.new.self c.on_datagram.result
+    (λ done. (tt, tt)) c.on_datagram.ensures.steps c.on_datagram.ensures.refused

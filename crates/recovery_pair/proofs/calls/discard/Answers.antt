@@ -4,6 +4,7 @@ use Rattle.recovery_pair.specs.Pasts.{discarding}
 use Rattle.recovery_pair.proofs.GoingLaws.{discards_event}
 use Rattle.recovery_pair.proofs.PacketLaws.{tries_event}
 use Rattle.recovery_pair.proofs.TimedLaws.{tries_timer}
+use Rattle.recovery_pair.proofs.ItemLaws.{tries_carries}
 use Rattle.recovery_pair.proofs.calls.discard.Goals as goal
 
 pub returns-clause-goes : goal.returns-clause-goes
@@ -13,4 +14,8 @@ returns-clause-goes g c = tries_event _ (discarding c.args.space)
 
 pub returns-clause-timer : goal.returns-clause-timer
 returns-clause-timer g c = tries_timer c.args.sender.now c.discard.new.self _ _ c.discard.result
+    c.discard.ensures.steps c.discard.ensures.refused
+
+pub returns-clause-items : goal.returns-clause-items
+returns-clause-items g c = tries_carries _ _ c.args.sender.now c.discard.new.self c.discard.result (λ done. (tt, tt))
     c.discard.ensures.steps c.discard.ensures.refused

@@ -2,6 +2,7 @@ use Rattle.recovery_pair.proofs.QuietLaws.{delay_quietly}
 use Rattle.std.proofs.Common.{refl}
 use Rattle.recovery_events.specs.declared.event.Event.TheVariants.{AckDelayTimeout}
 use Rattle.recovery_pair.proofs.TimedLaws.{event_timer}
+use Rattle.recovery_pair.proofs.ItemLaws.{event_carries}
 use Rattle.recovery_pair.proofs.calls.end_delay.Goals as goal
 
 pub returns-clause-goes : goal.returns-clause-goes
@@ -10,4 +11,9 @@ returns-clause-goes g c = delay_quietly c.args.space c.args.sender.now c.on_even
 
 pub returns-clause-timer : goal.returns-clause-timer
 returns-clause-timer g c = event_timer c.args.sender.now c.on_event.new.self (AckDelayTimeout c.args.space) tt refl
+    c.on_event.result c.on_event.ensures
+
+pub returns-clause-items : goal.returns-clause-items
+returns-clause-items g c = event_carries (AckDelayTimeout c.args.space) c.args.sender.now c.on_event.new.self
+    (λ reply. tt) refl
     c.on_event.result c.on_event.ensures

@@ -1,5 +1,6 @@
 use Rattle.recovery_pair.proofs.QuietLaws.{timeout_ending}
 use Rattle.recovery_pair.proofs.TimedLaws.{timeout_timer}
+use Rattle.recovery_pair.proofs.ItemLaws.{timeout_carries}
 use Rattle.recovery_pair.proofs.calls.expire.Goals as goal
 
 pub returns-clause-goes : goal.returns-clause-goes
@@ -8,4 +9,8 @@ returns-clause-goes g c = timeout_ending c.args.now c.args.sender.now c.on_timeo
 
 pub returns-clause-timer : goal.returns-clause-timer
 returns-clause-timer g c = timeout_timer c.args.sender.now c.on_timeout.new.self c.args.now c.on_timeout.result
+    c.on_timeout.ensures.comes
+
+pub returns-clause-items : goal.returns-clause-items
+returns-clause-items g c = timeout_carries c.args.now c.args.sender.now c.on_timeout.new.self c.on_timeout.result
     c.on_timeout.ensures.comes

@@ -2,6 +2,7 @@ use Rattle.recovery_pair.proofs.PacketLaws.{dropped_by_call, heard_by_call}
 use Rattle.std.proofs.Common.{refl}
 use Rattle.recovery_events.specs.declared.event.Event.TheVariants.{Received}
 use Rattle.recovery_pair.proofs.TimedLaws.{event_timer}
+use Rattle.recovery_pair.proofs.ItemLaws.{event_carries}
 use Rattle.recovery_pair.proofs.calls.hear.Goals as goal
 
 pub returns-in-Ok-clause-goes : goal.returns-in-Ok-clause-goes
@@ -21,3 +22,11 @@ returns-in-Ok-clause-timer g c = event_timer c.args.sender.now c.on_event.new.se
 pub returns-in-Err-clause-timer : goal.returns-in-Err-clause-timer
 returns-in-Err-clause-timer g c = event_timer c.args.sender.now c.on_event.new.self
     (Received c.args.space c.args.now c.args.number c.args.eliciting) tt refl c.on_event.result c.on_event.ensures
+
+pub returns-in-Ok-clause-items : goal.returns-in-Ok-clause-items
+returns-in-Ok-clause-items g c = event_carries (Received c.args.space c.args.now c.args.number c.args.eliciting)
+    c.args.sender.now c.on_event.new.self (λ reply. tt) refl c.on_event.result c.on_event.ensures
+
+pub returns-in-Err-clause-items : goal.returns-in-Err-clause-items
+returns-in-Err-clause-items g c = event_carries (Received c.args.space c.args.now c.args.number c.args.eliciting)
+    c.args.sender.now c.on_event.new.self (λ reply. tt) refl c.on_event.result c.on_event.ensures

@@ -3,6 +3,7 @@ use Rattle.recovery_sender.specs.Acking.{AckResult}
 use Rattle.recovery_pair.proofs.HonestLaws.{refused_spared, some_items, taken_sampled, taken_within}
 use Rattle.recovery_pair.proofs.QuietLaws.{ack_ending, same_quietly, within_any}
 use Rattle.recovery_pair.proofs.TimedLaws.{ack_timer, same_timer}
+use Rattle.recovery_pair.proofs.ItemLaws.{ack_carries, same_carries}
 use Rattle.recovery_pair.proofs.calls.hear_ack.Goals as goal
 
 pub returns-in-Ok-clause-goes : goal.returns-in-Ok-clause-goes
@@ -42,3 +43,13 @@ returns-in-Ok-clause-timer g c = ack_timer c.args.sender.now c.on_ack.new.self c
 
 pub returns-in-Err-clause-timer : goal.returns-in-Err-clause-timer
 returns-in-Err-clause-timer g c = same_timer c.args.sender.now c.on_ack.new.self c.in-Err.ensures.0
+
+pub returns-in-Ok-clause-items : goal.returns-in-Ok-clause-items
+returns-in-Ok-clause-items g c = ack_carries c.args.packet.now.space c.args.now _ _ c.args.sender.now c.on_ack.new.self
+    c.in-Ok.acknowledged c.in-Ok.ensures
+
+pub returns-then-is_empty-clause-items : goal.returns-then-is_empty-clause-items
+returns-then-is_empty-clause-items g c = same_carries c.args.sender.now c.args.sender.now refl
+
+pub returns-in-Err-clause-items : goal.returns-in-Err-clause-items
+returns-in-Err-clause-items g c = same_carries c.args.sender.now c.on_ack.new.self c.in-Err.ensures.0

@@ -5,6 +5,7 @@ use Rattle.recovery_pair.proofs.PacketLaws.{counted_once, sends_by_call}
 use Rattle.recovery_pair.proofs.QuietLaws.{unsent_quietly}
 use Rattle.recovery_events.specs.declared.event.Event.TheVariants.{Send}
 use Rattle.recovery_pair.proofs.TimedLaws.{event_timer}
+use Rattle.recovery_pair.proofs.ItemLaws.{failed_carries, send_carries}
 use Rattle.recovery_pair.proofs.calls.track.Goals as goal
 
 pub returns-in-Ok-Sent-clause-goes : goal.returns-in-Ok-Sent-clause-goes
@@ -29,3 +30,12 @@ pub returns-in-Err-clause-timer : goal.returns-in-Err-clause-timer
 returns-in-Err-clause-timer g c = event_timer c.args.sender.now c.send.new.self
     (Send c.args.space c.args.now _ c.args.eliciting c.args.largest c.args.queue tt) tt refl c.send.result
     c.send.ensures
+
+pub returns-in-Ok-Sent-clause-items : goal.returns-in-Ok-Sent-clause-items
+returns-in-Ok-Sent-clause-items g c = send_carries c.args.space c.args.now c.counted_if-counted.result
+    c.args.eliciting c.args.largest c.args.queue _ _ _ _ c.args.sender.now c.send.new.self
+    (rw c.in-Ok-Sent.field-0-is at c.in-Ok-Sent.ensures)
+
+pub returns-in-Err-clause-items : goal.returns-in-Err-clause-items
+returns-in-Err-clause-items g c = failed_carries (Send c.args.space c.args.now _ c.args.eliciting c.args.largest
+    c.args.queue tt) c.args.sender.now c.send.new.self (λ refusal. tt) c.in-Err.refused c.in-Err.ensures

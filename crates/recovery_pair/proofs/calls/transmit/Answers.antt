@@ -2,6 +2,7 @@ use Rattle.recovery_sender.specs.Calls.{is_checked}
 use Rattle.recovery_pair.proofs.PacketLaws.{may_transmit}
 use Rattle.recovery_pair.proofs.TimedLaws.{tries_timer}
 use Rattle.recovery_pair.proofs.TurnLaws.{fits_checked}
+use Rattle.recovery_pair.proofs.ItemLaws.{transmit_carries}
 use Rattle.recovery_pair.proofs.calls.transmit.Goals as goal
 
 pub returns-clause-goes : goal.returns-clause-goes
@@ -16,4 +17,9 @@ returns-clause-fits g c = fits_checked c.args.sender.now c.args.space c.args.siz
 
 pub returns-clause-timer : goal.returns-clause-timer
 returns-clause-timer g c = tries_timer c.args.sender.now c.transmit.new.self _ _ c.transmit.result
+    c.transmit.ensures.steps c.transmit.ensures.refused
+
+pub returns-clause-items : goal.returns-clause-items
+returns-clause-items g c = transmit_carries c.args.now c.args.size (is_checked c.args.sender.now.variables c.args.space
+    c.args.eliciting) c.args.sender.now.variables c.args.sender.now c.transmit.new.self c.transmit.result
     c.transmit.ensures.steps c.transmit.ensures.refused

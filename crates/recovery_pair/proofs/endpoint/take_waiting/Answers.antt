@@ -1,4 +1,5 @@
 use Rattle.recovery_pair.proofs.WaitLaws.{removed_one}
+use Rattle.recovery_pair.proofs.ItemMoves.{none_to_repeat, one_exchanged}
 use Rattle.recovery_pair.proofs.endpoint.take_waiting.Goals as goal
 
 pub returns-in-Some-clause-loses : goal.returns-in-Some-clause-loses
@@ -6,3 +7,11 @@ returns-in-Some-clause-loses c =
     let place = rw c.deref.ensures.value at c.in-Some.ensures in
     removed_one c.args.space c.args.waiting.now.items c.remove.new.self.items c.in-Some.at c.remove.result place.0
     (place.1 c.remove.result) c.remove.ensures.value c.remove.ensures.items
+
+pub returns-in-Some-clause-items : goal.returns-in-Some-clause-items
+returns-in-Some-clause-items c =
+    let place = rw c.deref.ensures.value at c.in-Some.ensures in
+    one_exchanged c.args.space c.args.repeated c.args.waiting.now.items c.remove.new.self.items c.in-Some.at
+    c.remove.result
+    (none_to_repeat c.args.repeated c.items.result.now c.items.ensures c.if-not-is_empty.ensures) place.0 (place.1
+    c.remove.result) c.remove.ensures.value c.remove.ensures.items

@@ -4,6 +4,7 @@ use Rattle.recovery_pair.specs.Pasts.{Continues, SendsNumber}
 use Rattle.recovery_pair.specs.Flights.{counted_if}
 use Rattle.recovery_pair.proofs.QuietLaws.{quietly_then}
 use Rattle.recovery_pair.proofs.TurnLaws.{quietly_sends, sends_quietly}
+use Rattle.recovery_pair.proofs.ItemMoves.{keeps_move, sends_move}
 use Rattle.recovery_pair.proofs.endpoint.Endpoint.pack.Goals as goal
 
 pub returns-in-Ok-track-clause-goes : goal.returns-in-Ok-track-clause-goes
@@ -42,3 +43,21 @@ returns-in-Ok-track-clause-timer g c = λ has. c.end_acks.ensures.timer (c.in-Ok
 pub returns-in-Err-track-clause-timer : goal.returns-in-Err-track-clause-timer
 returns-in-Err-track-clause-timer g c = λ has. rw c.keep.ensures.goes (c.in-Err-track.ensures.timer
     (c.in-Ok.ensures.timer has))
+
+pub returns-in-Ok-track-clause-items : goal.returns-in-Ok-track-clause-items
+returns-in-Ok-track-clause-items g c =
+    let second = c.in-Ok.ensures.copies.1 in
+    let taken = c.in-Ok.ensures.items in
+    sends_move c.args.space c.in-Ok-track.number taken.0 c.in-Ok.taken.queue c.in-Ok.taken.told.items
+    c.args.self.now.sender c.take_items.new.self.sender c.track.new.sender c.end_acks.new.self.sender
+    c.args.self.now.waiting.items c.end_acks.new.self.waiting.items taken.1 c.in-Ok-track.ensures.items
+    c.end_acks.ensures.items (rw (← c.end_acks.ensures.waits) at taken.2) cc
+
+pub returns-in-Err-track-clause-items : goal.returns-in-Err-track-clause-items
+returns-in-Err-track-clause-items g c =
+    let first = c.in-Ok.ensures.copies.0 in
+    let taken = c.in-Ok.ensures.items in
+    keeps_move c.args.space taken.0 c.in-Ok.taken.queue c.from_items.result
+    c.args.self.now.sender c.take_items.new.self.sender c.keep.new.self.sender
+    c.args.self.now.waiting.items c.take_items.new.self.waiting.items c.keep.new.self.waiting.items
+    taken.1 (rw c.keep.ensures.goes c.in-Err-track.ensures.items) taken.2 c.keep.ensures.items cc

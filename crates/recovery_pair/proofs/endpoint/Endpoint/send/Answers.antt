@@ -2,6 +2,7 @@ use Rattle.std.proofs.Common.{ℕ, Option, Ok, subst, sym}
 use Rattle.recovery_pair.specs.Permits.{AgreesAlready, IsIdle, said_by}
 use Rattle.recovery_pair.proofs.PermitLaws.{packed_agrees}
 use Rattle.recovery_pair.proofs.TurnLaws.{packed_turn}
+use Rattle.recovery_pair.proofs.ItemMoves.{then_sends}
 use Rattle.recovery_pair.proofs.endpoint.Endpoint.send.Goals as goal
 
 pub returns-clause-goes : goal.returns-clause-goes
@@ -30,3 +31,8 @@ returns-clause-permits g c =
 
 pub returns-clause-timer : goal.returns-clause-timer
 returns-clause-timer g c = λ has. c.pack.ensures.timer (c.in-Ok-Transmitted.ensures.timer has)
+
+pub returns-clause-items : goal.returns-clause-items
+returns-clause-items g c = then_sends c.args.space c.pack.result c.args.self.now.sender c.transmit.new.sender
+    c.pack.new.self.sender c.args.self.now.waiting.items c.reserve.new.self.items c.pack.new.self.waiting.items
+    c.in-Ok-Transmitted.ensures.items c.in-Ok-reserve.ensures.items c.pack.ensures.items

@@ -1,6 +1,7 @@
 use Rattle.std.proofs.Common.{length, ltb-true, Ok, Err, refl, sym}
 use Rattle.recovery_pair.specs.declared.steps.PairAnswer.TheVariants.{Arrived, Nothing}
 use Rattle.recovery_pair.specs.declared.steps.PairStep.TheVariants.{Arrive}
+use Rattle.recovery_pair.proofs.ItemTies.{arrived_items, idle_items, same_items}
 use Rattle.recovery_pair.proofs.QueueLaws.{same_queue, step_keeps, still_queue}
 use Rattle.recovery_pair.proofs.StepTies.{arrives_at, beyond, held_turn, idle_step}
 use Rattle.recovery_pair.proofs.TimedLaws.{timers_at}
@@ -20,6 +21,7 @@ returns-in_default-clause-keeps g c = step_keeps c.args.self.now.client.sender c
       sent_same = λ measure there. refl;
     }) (λ log. tt) c.args.self.now.client.waiting.items
     c.args.self.now.server.waiting.items)
+    (same_items (Arrive c.args.at c.args.now) (Ok Nothing) _ _ tt tt (λ log. tt))
 
 pub returns-in-Ok-clause-keeps : goal.returns-in-Ok-clause-keeps
 returns-in-Ok-clause-keeps g c = step_keeps c.args.self.now.client.sender c.args.self.now.server.sender
@@ -41,6 +43,8 @@ returns-in-Ok-clause-keeps g c = step_keeps c.args.self.now.client.sender c.args
     c.args.self.now.client.waiting.items
     c.args.self.now.server.waiting.items c.hear_at.new.client.waiting.items c.hear_at.new.server.waiting.items
     c.in-Ok.ensures.waits)
+    (arrived_items c.other-to.result c.args.at c.args.now c.in-Some.packet.now.space c.in-Some.packet.now.number
+    c.in-Some.packet.now.size c.in-Ok.fate _ _ _ _ c.in-Ok.ensures.items)
 
 pub returns-in-Err-clause-keeps : goal.returns-in-Err-clause-keeps
 returns-in-Err-clause-keeps g c = step_keeps c.args.self.now.client.sender c.args.self.now.server.sender
@@ -59,6 +63,8 @@ returns-in-Err-clause-keeps g c = step_keeps c.args.self.now.client.sender c.arg
     }) (λ log. tt) c.args.self.now.client.waiting.items
     c.args.self.now.server.waiting.items c.hear_at.new.client.waiting.items c.hear_at.new.server.waiting.items
     c.in-Err.ensures.waits)
+    (idle_items c.other-to.result (Arrive c.args.at c.args.now) (Err c.in-Err.refused) _ _ _ _ tt tt (λ log. tt)
+    c.in-Err.ensures.items)
 
 pub returns-in-Ok-clause-timer_set : goal.returns-in-Ok-clause-timer_set
 returns-in-Ok-clause-timer_set g c = timers_at c.other-to.result c.args.self.now.client.sender

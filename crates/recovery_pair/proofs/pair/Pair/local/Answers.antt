@@ -1,4 +1,5 @@
 use Rattle.recovery_pair.specs.declared.steps.PairStep.TheVariants.{Local}
+use Rattle.recovery_pair.proofs.ItemTies.{local_items}
 use Rattle.recovery_pair.proofs.QueueLaws.{local_known, local_queue, step_keeps}
 use Rattle.recovery_pair.proofs.StepTies.{local_answer, local_step_at}
 use Rattle.recovery_pair.proofs.TimedLaws.{timers_at}
@@ -20,6 +21,7 @@ returns-clause-keeps g c = step_keeps c.args.self.now.client.sender c.args.self.
     c.args.self.now.client.waiting.items
     c.args.self.now.server.waiting.items c.local_at.new.client.waiting.items c.local_at.new.server.waiting.items
     c.local_at.ensures.waits)
+    (local_items c.args.end c.args.step c.local_at.result _ _ _ _ c.local_at.ensures.items)
 
 pub returns-clause-timer_set : goal.returns-clause-timer_set
 returns-clause-timer_set g c = timers_at c.args.end c.args.self.now.client.sender c.args.self.now.server.sender

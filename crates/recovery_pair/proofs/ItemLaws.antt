@@ -1,0 +1,698 @@
+-- What the calls of a sender take from the retransmission queue, send and declare lost.
+use Rattle.std.proofs.Common.{◌≡◌, ℕ, ◌+◌, inl, inr, Bool, true, false, List, [], ◌∷◌, ◌++◌, Option, None, Some, Result, Ok, Err, refl, sym, ap, subst, ◌∙◌, arith}
+use Rattle.std.specs.Prelude.{IfOk, MatchResult, OnErr, min, option_to_list, if◌then◌else◌}
+use Rattle.std.specs.Option.{ForSome}
+use Rattle.rand_core.specs.Stream.{Stream}
+use Rattle.recovery_base.specs.declared.below.SpaceId.{SpaceId}
+use Rattle.recovery_base.specs.declared.below.frames.EcnCounts.{EcnCounts}
+use Rattle.recovery_base.specs.Spaces.{same_space}
+use Rattle.recovery_base.specs.Units.{largest_u64}
+use Rattle.recovery_congestion.specs.Controllers.{ControllerSemantics}
+use Rattle.recovery_events.specs.declared.event.Answer.{Answer}
+use Rattle.recovery_events.specs.declared.event.Answer.TheVariants as answers
+use Rattle.recovery_events.specs.declared.event.Event.{Event}
+use Rattle.recovery_events.specs.declared.event.Event.TheVariants as events
+use Rattle.recovery_events.specs.declared.event.Refusal.{Refusal}
+use Rattle.recovery_events.specs.declared.event.Refusal.TheVariants.{NoMemory, SpaceDiscarded}
+use Rattle.recovery_spaces.specs.Discarded.{is_discarded}
+use Rattle.recovery_spaces.specs.Spaces.{Space}
+use Rattle.recovery_losses.specs.declared.due.Due.{Due}
+use Rattle.recovery_losses.specs.declared.frames.Ack.{Ack}
+use Rattle.recovery_losses.specs.declared.looks.LossPass.{LossPass}
+use Rattle.recovery_losses.specs.declared.variables.Variables.{Variables}
+use Rattle.recovery_losses.specs.Losses.{bytes_counted, last_counted}
+use Rattle.recovery_history.specs.declared.config.RecoveryConfig.{RecoveryConfig}
+use Rattle.recovery_history.specs.History.{Beginning, History, QueueModel, Reply, begins, queue_model}
+use Rattle.recovery_history.specs.Reachability.{ReachedBy}
+use Rattle.recovery_history.specs.RecoveryState.{RecoveryState}
+use Rattle.recovery_sender.specs.Acking.{AckResult, Acknowledges, EcnCompared, EcnResult, SamplesRtt, acking, first_marked}
+use Rattle.recovery_sender.specs.Attempts.{LossAttempt, declared_in, probe_attempts, trying}
+use Rattle.recovery_sender.specs.Calls.{EventResult, IsAnsweredEvent, IsEventResult, ProbeResult, changes_path, transmit_steps}
+use Rattle.recovery_sender.specs.Detection.{DetectsLosses, congested, detecting, ended}
+use Rattle.recovery_sender.specs.Losses.{largest_in, look_of}
+use Rattle.recovery_sender.specs.Senders.{state_in}
+use Rattle.recovery_sender.specs.Spaces.{packets_in}
+use Rattle.recovery_sender.specs.Steps.{CompletesCall, RearmsTimer, SenderStep, StepsLeadTo, TakesSteps, loss_time, marked, occurs, timed, told}
+use Rattle.recovery_sender.specs.Timeouts.{DetectsByTime, TimeoutResult}
+use Rattle.recovery_sender.specs.Timer.{due_of}
+use Rattle.recovery_sender.specs.declared.sender.Sender.{Sender}
+use Rattle.recovery_sender.specs.declared.sender.SenderError.{SenderError}
+use Rattle.recovery_sender.specs.declared.sender.SenderError.TheVariants as refused
+use Rattle.recovery_sender.specs.declared.sender.acks.Acknowledged.{Acknowledged}
+use Rattle.recovery_sender.specs.declared.sender.acks.EcnOutcome.{EcnOutcome}
+use Rattle.recovery_sender.specs.declared.sender.acks.EcnOutcome.TheVariants.{Quiet, Marked, Failed}
+use Rattle.recovery_sender.specs.declared.sender.losses.Losses.{Losses}
+use Rattle.recovery_sender.specs.declared.sender.packets.Transmission.{Transmission}
+use Rattle.recovery_sender.specs.declared.sender.packets.Transmission.TheVariants as transmission
+use Rattle.recovery_sender.specs.declared.sender.probes.Timeout.{Timeout}
+use Rattle.recovery_sender.specs.declared.sender.probes.Timeout.TheVariants.{Nothing, Lost, Probe}
+use Rattle.recovery_sender.proofs.ExtendedLaws.{loss_time_reached, marks_reached}
+use Rattle.recovery_pair.specs.declared.steps.AckOutcome.TheVariants.{Taken}
+use Rattle.recovery_pair.specs.Carried.{Carries, CarriesNone, CarriesOn, ContentsTurn, all_sent_with, lost_by_ack, lost_by_timeout, lost_there, losing, none_lost, sending_with, sent_with, taken_there, taking}
+use Rattle.recovery_pair.specs.Logs.{part}
+use Rattle.recovery_pair.specs.Promises.Resends.{lost_of}
+use Rattle.recovery_pair.proofs.QuietLaws.{joined}
+
+-- ---- one past after another
+
+zero_plus : (a : ℕ) → a ≡ 0 + a
+zero_plus a = omega arith
+
+module _ {Q S M P : Type 0} (contents : Q → P) where
+  all_same : (measure : P → ℕ) (space : SpaceId) (numbers : List ℕ) (past after : History Q S M P)
+      → ((n : ℕ) → sent_with contents measure space n after ≡ sent_with contents measure space n past)
+      → all_sent_with contents measure space numbers after ≡ all_sent_with contents measure space numbers past
+  all_same measure space [] past after same = refl
+  all_same measure space (n ∷ numbers) past after same =
+      let one = same n in
+      let rest = all_same measure space numbers past after same in
+      omega (arith, one, rest)
+
+  all_append : (measure : P → ℕ) (space : SpaceId) (numbers more : List ℕ) (past : History Q S M P)
+      → all_sent_with contents measure space (numbers ++ more) past
+      ≡ all_sent_with contents measure space numbers past + all_sent_with contents measure space more past
+  all_append measure space [] more past = omega arith
+  all_append measure space (n ∷ numbers) more past =
+      let rest = all_append measure space numbers more past in omega (arith, rest)
+
+  pub still_none : (past : History Q S M P) → CarriesOn contents (losing none_lost) past past
+  still_none past = record {
+    taken = λ measure space. omega arith;
+    sent = λ measure space n. omega arith;
+    lost = λ measure space. omega arith;
+  }
+
+  pub then_still : (turn : ContentsTurn P) (past between after : History Q S M P)
+      → CarriesOn contents turn past between → CarriesOn contents (losing none_lost) between after
+      → CarriesOn contents turn past after
+  then_still turn past between after first second = record {
+    taken = λ measure space. (
+        let one = first.taken measure space in
+        let two = second.taken measure space in omega (arith, one, two));
+    sent = λ measure space n. (
+        let one = first.sent measure space n in
+        let two = second.sent measure space n in omega (arith, one, two));
+    lost = λ measure space. (
+        let one = first.lost measure space in
+        let two = second.lost measure space in omega (arith, one, two));
+  }
+
+  pub still_then : (turn : ContentsTurn P) (past between after : History Q S M P)
+      → CarriesOn contents (losing none_lost) past between → CarriesOn contents turn between after
+      → CarriesOn contents turn past after
+  still_then turn past between after first second = record {
+    taken = λ measure space. (
+        let one = first.taken measure space in
+        let two = second.taken measure space in omega (arith, one, two));
+    sent = λ measure space n. (
+        let one = first.sent measure space n in
+        let two = second.sent measure space n in omega (arith, one, two));
+    lost = λ measure space. (
+        let one = first.lost measure space in
+        let two = second.lost measure space in
+        let same = all_same measure space (turn.loses space) past between
+        (λ n. let three = first.sent measure space n in omega (arith, three)) in omega (arith, one, two, same));
+  }
+
+  pub losing_then : (some more : SpaceId → List ℕ) (past between after : History Q S M P)
+      → CarriesOn contents (losing some) past between → CarriesOn contents (losing more) between after
+      → CarriesOn contents (losing (λ space. some space ++ more space)) past after
+  losing_then some more past between after first second = record {
+    taken = λ measure space. (
+        let one = first.taken measure space in
+        let two = second.taken measure space in omega (arith, one, two));
+    sent = λ measure space n. (
+        let one = first.sent measure space n in
+        let two = second.sent measure space n in omega (arith, one, two));
+    lost = λ measure space. (
+        let one = first.lost measure space in
+        let two = second.lost measure space in
+        let same = all_same measure space (more space) past between
+        (λ n. let three = first.sent measure space n in omega (arith, three)) in
+        let both = all_append measure space (some space) (more space) past in omega (arith, one, two, same, both));
+  }
+
+  pub losing_as : (some other : SpaceId → List ℕ) → ((space : SpaceId) → other space ≡ some space)
+      → (past after : History Q S M P) → CarriesOn contents (losing some) past after
+      → CarriesOn contents (losing other) past after
+  losing_as some other same past after goes = record {
+    taken = goes.taken;
+    sent = goes.sent;
+    lost = λ measure space. subst (λ (numbers : List ℕ). lost_there contents measure space after
+        ≡ all_sent_with contents measure space numbers past + lost_there contents measure space past)
+        (sym (same space)) (goes.lost measure space);
+  }
+
+  -- ---- one event
+
+  -- by which nothing is taken, sent or lost
+  abbrev pub IsStill : Event Q S M P → Reply Q → Type 0
+  IsStill (events.Send space now size eliciting largest queue frames) (Ok answer) = ⊥
+  IsStill (events.Lost space number) (Ok answer) = ⊥
+  IsStill (events.TakePending space) (Ok answer) = ⊥
+  IsStill event reply = Unit {0}
+
+  still_taken : (event : Event Q S M P) (reply : Reply Q) → IsStill event reply → (past : History Q S M P)
+      (measure : P → ℕ) (space : SpaceId)
+      → taken_there contents measure space ((event, reply) ∷ past) ≡ taken_there contents measure space past
+  still_taken (events.TakePending there) (Ok answer) still past measure space = absurd still
+  still_taken (events.TakePending there) (Err refusal) still past measure space = refl
+  still_taken event reply still past measure space = refl
+
+  still_sent : (event : Event Q S M P) (reply : Reply Q) → IsStill event reply → (past : History Q S M P)
+      (measure : P → ℕ) (space : SpaceId) (n : ℕ)
+      → sent_with contents measure space n ((event, reply) ∷ past) ≡ sent_with contents measure space n past
+  still_sent (events.Send there now size eliciting largest queue frames) (Ok answer) still past measure space n =
+      absurd still
+  still_sent (events.Send there now size eliciting largest queue frames) (Err refusal) still past measure space n =
+      refl
+  still_sent event reply still past measure space n = refl
+
+  still_lost : (event : Event Q S M P) (reply : Reply Q) → IsStill event reply → (past : History Q S M P)
+      (measure : P → ℕ) (space : SpaceId)
+      → lost_there contents measure space ((event, reply) ∷ past) ≡ lost_there contents measure space past
+  still_lost (events.Lost there n) (Ok answer) still past measure space = absurd still
+  still_lost (events.Lost there n) (Err refusal) still past measure space = refl
+  still_lost event reply still past measure space = refl
+
+  pub still_event : (event : Event Q S M P) (reply : Reply Q) → IsStill event reply → (past : History Q S M P)
+      → CarriesOn contents (losing none_lost) past ((event, reply) ∷ past)
+  still_event event reply still past = record {
+    taken = λ measure space. still_taken event reply still past measure space ∙ zero_plus _;
+    sent = λ measure space n. still_sent event reply still past measure space n ∙ zero_plus _;
+    lost = λ measure space. still_lost event reply still past measure space ∙ zero_plus _;
+  }
+
+  pub taken_event : (there : SpaceId) (queue : Q) (past : History Q S M P)
+      → CarriesOn contents (taking there (contents queue)) past
+      ((events.TakePending there, Ok (answers.Queue queue)) ∷ past)
+  taken_event there queue past = record {
+    taken = λ measure space. refl;
+    sent = λ measure space n. zero_plus _;
+    lost = λ measure space. zero_plus _;
+  }
+
+  pub sent_event : (there : SpaceId) (now size : ℕ) (eliciting : Bool) (largest : Option ℕ) (queue : Q) (frames : M)
+      (number : ℕ) (forgotten : Option ℕ) (past : History Q S M P)
+      → CarriesOn contents (sending_with there number (contents queue)) past
+      ((events.Send there now size eliciting largest queue frames, Ok (answers.Sent number forgotten)) ∷ past)
+  sent_event there now size eliciting largest queue frames number forgotten past = record {
+    taken = λ measure space. zero_plus _;
+    sent = λ measure space n. refl;
+    lost = λ measure space. zero_plus _;
+  }
+
+-- these numbers, of one space
+abbrev pub at_space : SpaceId → List ℕ → SpaceId → List ℕ
+at_space there numbers space = if same_space there space then numbers else []
+
+both_there : (b : Bool) (some more : List ℕ)
+    → (if b then some ++ more else []) ≡ (if b then some else []) ++ (if b then more else [])
+both_there true some more = refl
+both_there false some more = refl
+
+module _ {Q S M P : Type 0} (contents : Q → P) where
+  lost_one : (b : Bool) (measure : P → ℕ) (space : SpaceId) (n : ℕ) (past : History Q S M P) (more : ℕ)
+      → part b (sent_with contents measure space n past) + more
+      ≡ all_sent_with contents measure space (if b then n ∷ [] else []) past + more
+  lost_one true measure space n past more = omega arith
+  lost_one false measure space n past more = omega arith
+
+  pub lost_event : (there : SpaceId) (n : ℕ) (answer : Answer Q) (past : History Q S M P)
+      → CarriesOn contents (losing (at_space there (n ∷ []))) past ((events.Lost there n, Ok answer) ∷ past)
+  lost_event there n answer past = record {
+    taken = λ measure space. zero_plus _;
+    sent = λ measure space n. zero_plus _;
+    lost = λ measure space. lost_one (same_space there space) measure space n past
+        (lost_there contents measure space past);
+  }
+
+-- ---- steps
+
+abbrev pub AreStill : {Q S M P : Type 0} → (Q → P) → List (SenderStep Q S M P) → Type 0
+AreStill contents [] = Unit {0}
+AreStill contents (told event reply ∷ steps) = IsStill contents event reply × AreStill contents steps
+AreStill {Q = Q} contents (occurs event ∷ steps) =
+    ((answer : Answer Q) → IsStill contents event (Ok answer)) × AreStill contents steps
+AreStill contents (loss_time space time ∷ steps) = AreStill contents steps
+AreStill contents (marked marks ∷ steps) = AreStill contents steps
+
+module _ (Q S M P : Type 0) (contents : Q → P) where
+  still_ended : (now : ℕ) (reported : Bool) (numbers : List ℕ)
+      → AreStill {S = S} {M = M} contents (ended now reported numbers)
+  still_ended now reported [] = tt
+  still_ended now reported (number ∷ numbers) = (tt, tt)
+
+  still_congested : (now : ℕ) (persistent : Bool) (bytes : ℕ) (sent : Option ℕ)
+      → AreStill {S = S} {M = M} contents (congested now persistent bytes sent)
+  still_congested now persistent bytes None = tt
+  still_congested now persistent bytes (Some sent) = (λ answer. tt, tt)
+
+  still_acking : (space : SpaceId) (now : ℕ) (limited : Bool) (numbers : List ℕ)
+      → AreStill {S = S} {M = M} contents (acking space now limited numbers)
+  still_acking space now limited [] = tt
+  still_acking space now limited (number ∷ numbers) = (λ answer. tt, still_acking space now limited numbers)
+
+  still_first : {K : Type 0} (recovery : RecoveryState K P M) (space : SpaceId) (first : Option (SpaceId × ℕ))
+      (here : Option (Space P M)) → AreStill {S = S} contents (first_marked recovery space first here)
+  still_first recovery space None (Some here) = tt
+  still_first recovery space None None = tt
+  still_first recovery space (Some first) here = tt
+
+  still_timer : (due : Option (ℕ × Due)) → AreStill {S = S} {M = M} contents (timed due ∷ [])
+  still_timer None = (tt, tt)
+  still_timer (Some due) = (tt, tt)
+
+-- the MTU probe is declared lost last
+probe_told : (found declared : Option ℕ) → ForSome declared (λ number. found ≡ Some number)
+    → declared_in (probe_attempts found declared) ≡ option_to_list declared
+probe_told None None is = refl
+probe_told None (Some number) is = let never = is number refl in absurd cc
+probe_told (Some other) None is = refl
+probe_told (Some other) (Some number) is =
+    let same : ◌≡◌ {A = Option ℕ} (Some other) (Some number) = is number refl in
+    let equal : other ≡ number = cc in
+    ap (λ (n : ℕ). n ∷ []) equal
+
+lost_there_of : (b : Bool) (numbers some one more : List ℕ) → numbers ≡ some → one ≡ more
+    → (if b then numbers ++ more else []) ≡ (if b then some else []) ++ (if b then one else [])
+lost_there_of true numbers some one more first second = rw (first, second) refl
+lost_there_of false numbers some one more first second = refl
+
+none_of : (b : Bool) (numbers more : List ℕ) → numbers ≡ [] → more ≡ [] → (if b then numbers ++ more else []) ≡ []
+none_of true numbers more one two = rw (one, two) refl
+none_of false numbers more one two = refl
+
+abbrev lost_so : {P : Type 0} → SpaceId → Losses → ContentsTurn P
+lost_so there losses = losing (λ space. lost_of space there losses)
+
+none_there : (b : Bool) → ◌≡◌ {A = List ℕ} (if b then [] else []) []
+none_there true = refl
+none_there false = refl
+
+module _ {F K Q S M P : Type 0} (built : F → ℕ → ℕ → K) (words : ControllerSemantics K) (queue : QueueModel Q S M P)
+    (config : RecoveryConfig F) (start : ℕ) (random : Stream) where
+  abbrev beginning : Beginning F K Q S M P
+  beginning = begins built words queue config start random
+
+  -- each past goes on to one of the new state
+  abbrev Arrives : ContentsTurn P → History Q S M P → RecoveryState K P M → Type 0
+  Arrives turn past new =
+      (after : History Q S M P) × ReachedBy beginning after new × CarriesOn queue.contents turn past after
+
+  abbrev Leads : List (SenderStep Q S M P) → RecoveryState K P M → RecoveryState K P M → Type 0
+  Leads = StepsLeadTo built words queue
+
+  parts : (steps more : List (SenderStep Q S M P)) (old new : RecoveryState K P M) → Leads (steps ++ more) old new
+      → (between : RecoveryState K P M) × Leads steps old between × Leads more between new
+  parts [] more old new leads = (old, refl, leads)
+  parts (told event reply ∷ steps) more old new leads =
+      let rest = parts steps more leads.0 new leads.3 in
+      (rest.0, (leads.0, leads.1, leads.2, rest.1), rest.2)
+  parts (occurs event ∷ steps) more old new leads =
+      let rest = parts steps more leads.1 new leads.4 in
+      (rest.0, (leads.0, leads.1, leads.2, leads.3, rest.1), rest.2)
+  parts (loss_time space time ∷ steps) more old new leads = parts steps more _ new leads
+  parts (marked marks ∷ steps) more old new leads = parts steps more _ new leads
+
+  leads_still : (steps : List (SenderStep Q S M P)) (old new : RecoveryState K P M) → AreStill queue.contents steps
+      → Leads steps old new → (past : History Q S M P) → ReachedBy beginning past old
+      → Arrives (losing none_lost) past new
+  leads_still [] old new still leads past came = (
+    past,
+    subst (λ (at : RecoveryState K P M). ReachedBy beginning past at) (sym leads) came,
+    still_none queue.contents past,
+  )
+  leads_still (told event reply ∷ steps) old new still leads past came =
+      let one = leads.2 config start random past came in
+      let rest = leads_still steps leads.0 new still.1 leads.3 ((event, reply) ∷ past) one.came in (
+        rest.0,
+        rest.1,
+        then_still queue.contents (losing none_lost) past ((event, reply) ∷ past) rest.0
+            (still_event queue.contents event reply still.0 past) rest.2,
+      )
+  leads_still (occurs event ∷ steps) old new still leads past came =
+      let one = leads.3 config start random past came in
+      let rest = leads_still steps leads.1 new still.1 leads.4 ((event, Ok leads.0) ∷ past) one.came in (
+        rest.0,
+        rest.1,
+        then_still queue.contents (losing none_lost) past ((event, Ok leads.0) ∷ past) rest.0
+            (still_event queue.contents event (Ok leads.0) (still.0 leads.0) past) rest.2,
+      )
+  leads_still (loss_time space time ∷ steps) old new still leads past came =
+      leads_still steps _ new still leads past
+      (loss_time_reached beginning past old came space time (is_discarded space old.discarded))
+  leads_still (marked marks ∷ steps) old new still leads past came =
+      leads_still steps _ new still leads past (marks_reached beginning past old came marks)
+
+  rearms_still : (kept : Variables) (old new : RecoveryState K P M) → RearmsTimer built words queue kept old new
+      → (past : History Q S M P) → ReachedBy beginning past old → Arrives (losing none_lost) past new
+  rearms_still kept old new (inl (set, same)) past came = (
+    past,
+    subst (λ (at : RecoveryState K P M). ReachedBy beginning past at) (sym same) came,
+    still_none queue.contents past,
+  )
+  rearms_still kept old new (inr (unset, leads)) past came =
+      leads_still (timed (due_of new kept) ∷ []) old new (still_timer Q S M P queue.contents (due_of new kept)) leads
+      past came
+
+  -- packets are declared lost one after another
+  trying_loses : (there : SpaceId) (attempts : List LossAttempt) (old new : RecoveryState K P M)
+      → Leads (trying there attempts) old new → (past : History Q S M P) → ReachedBy beginning past old
+      → Arrives (losing (at_space there (declared_in attempts))) past new
+  trying_loses there [] old new leads past came = (
+    past,
+    subst (λ (at : RecoveryState K P M). ReachedBy beginning past at) (sym leads) came,
+    losing_as queue.contents none_lost (at_space there []) (λ space. none_there (same_space there space)) past past
+        (still_none queue.contents past),
+  )
+  trying_loses there ((number, false) ∷ attempts) old new leads past came =
+      let one = leads.3 config start random past came in
+      let rest = trying_loses there attempts leads.1 new leads.4 ((events.Lost there number, Ok leads.0) ∷ past)
+      one.came in (
+        rest.0,
+        rest.1,
+        losing_as queue.contents
+            (λ space. at_space there (number ∷ []) space ++ at_space there (declared_in attempts) space)
+            (at_space there (number ∷ declared_in attempts))
+            (λ space. both_there (same_space there space) (number ∷ []) (declared_in attempts)) past rest.0
+            (losing_then queue.contents (at_space there (number ∷ [])) (at_space there (declared_in attempts)) past
+            ((events.Lost there number, Ok leads.0) ∷ past) rest.0
+            (lost_event queue.contents there number leads.0 past) rest.2),
+      )
+  trying_loses there ((number, true) ∷ attempts) old new leads past came =
+      let one = leads.2 config start random past came in
+      let rest = trying_loses there attempts leads.0 new leads.3 ((events.Lost there number, Err NoMemory) ∷ past)
+      one.came in (
+        rest.0,
+        rest.1,
+        still_then queue.contents (losing (at_space there (declared_in attempts))) past
+            ((events.Lost there number, Err NoMemory) ∷ past) rest.0
+            (still_event queue.contents (events.Lost there number) (Err NoMemory) tt past) rest.2,
+      )
+
+  detecting_loses : (look : LossPass) (attempts : List LossAttempt) (found : Option ℕ) (losses : Losses) (bytes : ℕ)
+      (sent time : Option ℕ) → losses.numbers.items ≡ declared_in attempts
+      → ForSome losses.probe (λ number. found ≡ Some number) → (old new : RecoveryState K P M)
+      → Leads (detecting look attempts found losses bytes sent time) old new → (past : History Q S M P)
+      → ReachedBy beginning past old → Arrives (losing (λ space. lost_of space look.space losses)) past new
+  detecting_loses look attempts found losses bytes sent time declared probe old new leads past came =
+      let there = look.space in
+      let last : List (SenderStep Q S M P) = loss_time there time ∷ [] in
+      let fourth : List (SenderStep Q S M P) = trying there (probe_attempts found losses.probe) ++ last in
+      let third : List (SenderStep Q S M P) = congested look.at losses.is_persistent bytes sent ++ fourth in
+      let second : List (SenderStep Q S M P) = ended look.at losses.is_black_hole losses.numbers.items ++ third in
+      let a = parts (trying there attempts) second old new leads in
+      let b = parts (ended look.at losses.is_black_hole losses.numbers.items) third a.0 new a.2 in
+      let d = parts (congested look.at losses.is_persistent bytes sent) fourth b.0 new b.2 in
+      let e = parts (trying there (probe_attempts found losses.probe)) last d.0 new d.2 in
+      let one = trying_loses there attempts old a.0 a.1 past came in
+      let two = leads_still (ended look.at losses.is_black_hole losses.numbers.items) a.0 b.0
+      (still_ended Q S M P queue.contents look.at losses.is_black_hole losses.numbers.items) b.1 one.0 one.1 in
+      let three = leads_still (congested look.at losses.is_persistent bytes sent) b.0 d.0
+      (still_congested Q S M P queue.contents look.at losses.is_persistent bytes sent) d.1 two.0 two.1 in
+      let four = trying_loses there (probe_attempts found losses.probe) d.0 e.0 e.1 three.0 three.1 in
+      let five = leads_still last e.0 new tt e.2 four.0 four.1 in
+      let some = at_space there (declared_in attempts) in
+      let more = at_space there (declared_in (probe_attempts found losses.probe)) in
+      let contents = queue.contents in
+      let first_two = then_still contents (losing some) past one.0 two.0 one.2 two.2 in
+      let first_three = then_still contents (losing some) past two.0 three.0 first_two three.2 in
+      let first_four = losing_then contents some more past three.0 four.0 first_three four.2 in
+      let all = then_still contents (losing (λ space. some space ++ more space)) past four.0 five.0 first_four
+      five.2 in (
+        five.0,
+        five.1,
+        losing_as contents (λ space. some space ++ more space) (λ space. lost_of space there losses)
+            (λ space. lost_there_of (same_space there space) losses.numbers.items (declared_in attempts)
+            (declared_in (probe_attempts found losses.probe)) (option_to_list losses.probe) declared
+            (probe_told found losses.probe probe)) past five.0 all,
+      )
+
+-- ---- calls
+
+module _ {F Q R C K S M P : Type 0} {f : _} {c : _} {q : _} {m : _} {r : _} where
+  pub same_carries : (old new : Sender F Q R C K S M P f c q m r) → new ≡ old → CarriesNone old new
+  same_carries old new same = record {
+    from = λ config start random past came. (
+      past,
+      subst (λ (at : Sender F Q R C K S M P f c q m r).
+          ReachedBy (begins f.built c.words (queue_model q.contents q.words q.blank) config start random) past
+          (state_in at)) (sym same) came,
+      still_none q.contents past,
+    );
+  }
+
+  -- a call by which nothing is taken, sent or lost comes after another one, or before it
+  pub carries_then : (turn : ContentsTurn P) (old between new : Sender F Q R C K S M P f c q m r)
+      → Carries turn old between → CarriesNone between new → Carries turn old new
+  carries_then turn = joined (CarriesOn q.contents turn) (CarriesOn q.contents (losing none_lost))
+      (CarriesOn q.contents turn) (then_still q.contents turn)
+
+  pub then_carries : (turn : ContentsTurn P) (old between new : Sender F Q R C K S M P f c q m r)
+      → CarriesNone old between → Carries turn between new → Carries turn old new
+  then_carries turn = joined (CarriesOn q.contents (losing none_lost)) (CarriesOn q.contents turn)
+      (CarriesOn q.contents turn) (still_then q.contents turn)
+
+  steps_carry : (steps : List (SenderStep Q S M P)) (old new : Sender F Q R C K S M P f c q m r)
+      → TakesSteps steps old new → AreStill q.contents steps → CarriesNone old new
+  steps_carry steps old new goes still = record {
+    from = λ config start random past came.
+        leads_still f.built c.words (queue_model q.contents q.words q.blank) config start random steps
+        (state_in old) (state_in new) still goes.leads past came;
+  }
+
+  pub call_carries : (steps : List (SenderStep Q S M P)) (kept : Variables) (old new : Sender F Q R C K S M P f c q m r)
+      → CompletesCall steps kept old new → AreStill q.contents steps → CarriesNone old new
+  call_carries steps kept old new does still = record {
+    from = λ config start random past came. (
+        let queue = queue_model q.contents q.words q.blank in
+        let one = leads_still f.built c.words queue config start random steps (state_in old) does.between still
+        does.leads past came in
+        let two = rearms_still f.built c.words queue config start random kept does.between (state_in new) does.sets
+        one.0 one.1 in
+        (two.0, two.1, then_still q.contents (losing none_lost) past one.0 two.0 one.2 two.2));
+  }
+
+  -- a call that may fail
+  pub tries_carries : {A : Type 0} (Steps : A → List (SenderStep Q S M P)) (kept : A → Variables)
+      (old new : Sender F Q R C K S M P f c q m r) (result : Result A SenderError)
+      → ((done : A) → AreStill q.contents (Steps done))
+      → IfOk result (λ done. CompletesCall (Steps done) (kept done) old new)
+      → OnErr result (new ≡ old) → CarriesNone old new
+  tries_carries Steps kept old new (Ok done) still does same = call_carries (Steps done) (kept done) old new does
+      (still done)
+  tries_carries Steps kept old new (Err refusal) still does same = same_carries old new same
+
+  -- events that pass
+  pub event_carries : (event : Event Q S M P) (old new : Sender F Q R C K S M P f c q m r)
+      → ((reply : Reply Q) → IsStill q.contents event reply) → changes_path event ≡ false
+      → (result : Result (Answer Q) SenderError) → IsEventResult event old new result → CarriesNone old new
+  event_carries event old new still stays (Ok answer) is = call_carries _ _ old new
+      (subst (λ (changes : Bool). IsAnsweredEvent event old new answer changes) stays is) (still (Ok answer), tt)
+  event_carries event old new still stays (Err (refused.Event refusal)) takes =
+      steps_carry _ old new takes (still (Err refusal), tt)
+  event_carries event old new still stays (Err refused.Unsent) never = absurd never
+
+  pub transmit_carries : (now bytes : ℕ) (checked : Bool) (kept : Variables)
+      (old new : Sender F Q R C K S M P f c q m r) (result : Result Transmission SenderError)
+      → IfOk result (λ sent. CompletesCall (transmit_steps now bytes checked sent) kept old new)
+      → OnErr result (new ≡ old) → CarriesNone old new
+  transmit_carries now bytes checked kept old new (Ok transmission.Transmitted) does same =
+      call_carries _ kept old new does (tt, tt)
+  transmit_carries now bytes checked kept old new (Ok (transmission.Delayed until)) does same =
+      call_carries _ kept old new does (tt, tt)
+  transmit_carries now bytes checked kept old new (Ok other) does same = call_carries [] kept old new does tt
+  transmit_carries now bytes checked kept old new (Err refusal) does same = same_carries old new same
+
+  -- ---- contents
+
+  -- the retransmission queue is taken, after steps by which nothing is
+  takes_by_call : (steps : List (SenderStep Q S M P)) (space : SpaceId) (queue : Q) (kept : Variables)
+      (old new : Sender F Q R C K S M P f c q m r) → AreStill q.contents steps
+      → CompletesCall (steps ++ told (events.TakePending space) (Ok (answers.Queue queue)) ∷ []) kept old new
+      → Carries (taking space (q.contents queue)) old new
+  takes_by_call steps space queue kept old new still does = record {
+    from = λ config start random past came. (
+        let model = queue_model q.contents q.words q.blank in
+        let split = parts f.built c.words model config start random steps
+        (told (events.TakePending space) (Ok (answers.Queue queue)) ∷ []) (state_in old) does.between does.leads in
+        let one = leads_still f.built c.words model config start random steps (state_in old) split.0 still split.1 past
+        came in
+        let taken = split.2 in
+        let two = taken.2 config start random one.0 one.1 in
+        let three = rearms_still f.built c.words model config start random kept does.between (state_in new) does.sets
+        ((events.TakePending space, Ok (answers.Queue queue)) ∷ one.0)
+        (subst (λ (at : RecoveryState K P M). ReachedBy (begins f.built c.words model config start random)
+        ((events.TakePending space, Ok (answers.Queue queue)) ∷ one.0) at) (sym taken.3) two.came) in (
+          three.0,
+          three.1,
+          then_still q.contents (taking space (q.contents queue)) past
+              ((events.TakePending space, Ok (answers.Queue queue)) ∷ one.0) three.0
+              (still_then q.contents (taking space (q.contents queue)) past one.0
+              ((events.TakePending space, Ok (answers.Queue queue)) ∷ one.0) one.2
+              (taken_event q.contents space queue one.0)) three.2,
+        ));
+  }
+
+  pub pending_carries : (space : SpaceId) (queue : Q) (old new : Sender F Q R C K S M P f c q m r)
+      → EventResult (events.TakePending space) old new (Ok (answers.Queue queue))
+      → Carries (taking space (q.contents queue)) old new
+  pending_carries space queue old new does = takes_by_call [] space queue _ old new tt does
+
+  -- an event that fails
+  pub failed_carries : (event : Event Q S M P) (old new : Sender F Q R C K S M P f c q m r)
+      → ((refusal : Refusal) → IsStill q.contents event (Err refusal)) → (refusal : SenderError)
+      → IsEventResult event old new (Err refusal) → CarriesNone old new
+  failed_carries event old new still (refused.Event refusal) takes = steps_carry _ old new takes (still refusal, tt)
+  failed_carries event old new still refused.Unsent never = absurd never
+
+  pub probe_carries : (space : SpaceId) (immediate : Bool) (streams : S) (queue : Q)
+      (old new : Sender F Q R C K S M P f c q m r) → ProbeResult space immediate streams old new (Ok queue)
+      → Carries (taking space (q.contents queue)) old new
+  probe_carries space immediate streams queue old new is = takes_by_call
+      (told (events.QueueProbe space immediate streams) (Ok is.1) ∷ []) space queue old.variables old new (tt, tt) is.2
+
+  pub no_probe_carries : (space : SpaceId) (immediate : Bool) (streams : S) (old new : Sender F Q R C K S M P f c q m r)
+      (refusal : SenderError) → ProbeResult space immediate streams old new (Err refusal) → CarriesNone old new
+  no_probe_carries space immediate streams old new (refused.Event SpaceDiscarded) is = same_carries old new is.1
+  no_probe_carries space immediate streams old new (refused.Event NoMemory) is = steps_carry _ old new is.1 (tt, tt)
+  no_probe_carries space immediate streams old new other is = absurd is
+
+  pub probe_matches : (space : SpaceId) (immediate : Bool) (streams : S) (result : Result Q SenderError)
+      (old new : Sender F Q R C K S M P f c q m r) → ProbeResult space immediate streams old new result
+      → MatchResult result (λ queue. Carries (taking space (q.contents queue)) old new)
+      (λ refusal. CarriesNone old new)
+  probe_matches space immediate streams (Ok queue) old new is = probe_carries space immediate streams queue old new is
+  probe_matches space immediate streams (Err refusal) old new is =
+      no_probe_carries space immediate streams old new refusal is
+
+  -- a packet is sent
+  pub send_carries : (space : SpaceId) (now size : ℕ) (eliciting : Bool) (largest : Option ℕ) (queue : Q) (frames : M)
+      (number : ℕ) (forgotten : Option ℕ) (kept : Variables) (old new : Sender F Q R C K S M P f c q m r)
+      → CompletesCall (told (events.Send space now size eliciting largest queue frames)
+      (Ok (answers.Sent number forgotten)) ∷ []) kept old new
+      → Carries (sending_with space number (q.contents queue)) old new
+  send_carries space now size eliciting largest queue frames number forgotten kept old new does = record {
+    from = λ config start random past came. (
+        let model = queue_model q.contents q.words q.blank in
+        let leads = does.leads in
+        let sent : Event Q S M P × Reply Q = (
+          events.Send space now size eliciting largest queue frames,
+          Ok (answers.Sent number forgotten),
+        ) in
+        let one = leads.2 config start random past came in
+        let two = rearms_still f.built c.words model config start random kept does.between (state_in new) does.sets
+        (sent ∷ past) (subst (λ (at : RecoveryState K P M). ReachedBy (begins f.built c.words model config start random)
+        (sent ∷ past) at) (sym leads.3) one.came) in (
+          two.0,
+          two.1,
+          then_still q.contents (sending_with space number (q.contents queue)) past (sent ∷ past) two.0
+              (sent_event q.contents space now size eliciting largest queue frames number forgotten past) two.2,
+        ));
+  }
+
+  -- ---- losses
+
+  as_other : (some other : SpaceId → List ℕ) → ((space : SpaceId) → other space ≡ some space)
+      → (old new : Sender F Q R C K S M P f c q m r) → Carries (losing some) old new → Carries (losing other) old new
+  as_other some other same old new goes = record {
+    from = λ config start random past came. (
+        let one = goes.from config start random past came in
+        (one.0, one.1, losing_as q.contents some other same past one.0 one.2));
+  }
+
+  detects_carries : (space : SpaceId) (now : ℕ) (due_to_ack : Bool) (losses : Losses)
+      (old new : Sender F Q R C K S M P f c q m r) → DetectsLosses space now due_to_ack old losses new
+      → Carries (lost_so space losses) old new
+  detects_carries space now due_to_ack losses old new detects = by (largest_in (state_in old) space) refl
+    where
+      by : (found : Option ℕ) → largest_in (state_in old) space ≡ found → Carries (lost_so space losses) old new
+      by None none =
+          let is = detects.none none in
+          as_other none_lost (λ there. lost_of there space losses)
+          (λ there. none_of (same_space space there) losses.numbers.items (option_to_list losses.probe)
+          is.0.numbers (ap option_to_list is.0.probe)) old new (steps_carry _ old new is.1 tt)
+      by (Some largest) is =
+          let looked = detects.looks largest is in
+          let look : LossPass = look_of (state_in old) old.variables space now due_to_ack largest in
+          let packets = packets_in (state_in old) space in
+          record {
+            from = λ config start random past came.
+                detecting_loses f.built c.words (queue_model q.contents q.words q.blank) config start random look
+                looked.0 looked.2.found losses
+                (min (bytes_counted look packets losses.numbers.items) largest_u64)
+                (last_counted look packets losses.numbers.items) looked.1 looked.2.declared looked.2.probe
+                (state_in old) (state_in new) looked.4.leads past came;
+          }
+
+  by_time_carries : (space : SpaceId) (now : ℕ) (losses : Losses) (old new : Sender F Q R C K S M P f c q m r)
+      → DetectsByTime space now old losses new → Carries (lost_so space losses) old new
+  by_time_carries space now losses old new by = carries_then (lost_so space losses) old by.behind new
+      (detects_carries space now false losses old by.behind by.detects)
+      (call_carries [] _ by.behind new by.does tt)
+
+  pub timeout_carries : (now : ℕ) (old new : Sender F Q R C K S M P f c q m r) (result : Result Timeout SenderError)
+      → TimeoutResult now old new result → Carries (losing (lost_by_timeout result)) old new
+  timeout_carries now old new (Ok Nothing) is = same_carries old new is.1
+  timeout_carries now old new (Ok (Lost space losses)) is = by_time_carries space now losses old new is.1
+  timeout_carries now old new (Ok (Probe space count)) is = call_carries [] _ old new is.1 tt
+  timeout_carries now old new (Err refusal) is = same_carries old new is.2
+
+  -- ---- an ACK frame
+
+  samples_carry : (space : SpaceId) (delay : ℕ) (old new : Sender F Q R C K S M P f c q m r) (rtt : Option ℕ)
+      → SamplesRtt space delay old new rtt → CarriesNone old new
+  samples_carry space delay old new None goes = steps_carry [] old new goes tt
+  samples_carry space delay old new (Some rtt) goes = carries_then (losing none_lost) old goes.0 new
+      (steps_carry _ old goes.0 goes.1 (λ answer. tt, tt))
+      (steps_carry _ goes.0 new goes.2 (still_first Q S M P q.contents (state_in goes.0) space _ _))
+
+  compared_carry : (space : SpaceId) (now newly : ℕ) (old new : Sender F Q R C K S M P f c q m r)
+      (counts : EcnCounts) (end : EcnOutcome) → EcnCompared space now newly old new counts end → CarriesNone old new
+  compared_carry space now newly old new counts Quiet goes = steps_carry _ old new goes.2 (tt, tt)
+  compared_carry space now newly old new counts Marked goes = carries_then (losing none_lost) old goes.1 new
+      (steps_carry _ old goes.1 goes.3 (tt, tt))
+      (steps_carry _ goes.1 new goes.4 (still_congested Q S M P q.contents now false 0 _))
+  compared_carry space now newly old new counts Failed goes = carries_then (losing none_lost) old goes.0 new
+      (steps_carry _ old goes.0 goes.2 (tt, tt)) (steps_carry _ goes.0 new goes.3 tt)
+
+  ecn_carries : (space : SpaceId) (now newly : ℕ) (old new : Sender F Q R C K S M P f c q m r) (sending : Bool)
+      (counts : Option EcnCounts) (raised : Bool) (end : EcnOutcome)
+      → EcnResult space now newly old new sending counts raised end → CarriesNone old new
+  ecn_carries space now newly old new false counts raised end goes = steps_carry [] old new goes.1 tt
+  ecn_carries space now newly old new true None raised end goes = steps_carry _ old new goes.1 tt
+  ecn_carries space now newly old new true (Some counts) false end goes = steps_carry [] old new goes.1 tt
+  ecn_carries space now newly old new true (Some counts) true end goes =
+      compared_carry space now newly old new counts end goes
+
+  acknowledges_carries : (space : SpaceId) (now : ℕ) (ranges : List (ℕ × ℕ)) (ack : Ack) (elicits : Bool)
+      (old new : Sender F Q R C K S M P f c q m r) (acked : Acknowledged)
+      → Acknowledges space now ranges ack elicits old acked new → Carries (lost_so space acked.losses) old new
+  acknowledges_carries space now ranges ack elicits old new acked is =
+      let model = queue_model q.contents q.words q.blank in
+      let turn = lost_so space acked.losses in
+      then_carries turn old is.taken new
+      (steps_carry _ old is.taken is.acks (still_acking Q S M P q.contents space now _ acked.numbers.items))
+      (then_carries turn is.taken is.ended new (steps_carry _ is.taken is.ended is.ends (λ answer. tt, tt))
+      (then_carries turn is.ended is.sampled new (samples_carry space ack.delay is.ended is.sampled _ is.samples)
+      (carries_then turn is.sampled is.looked new
+      (detects_carries space now true acked.losses is.sampled is.looked is.detects)
+      (carries_then (losing none_lost) is.looked is.heard new
+      (ecn_carries space now _ is.looked is.heard _ _ _ _ is.compares) (call_carries [] _ is.heard new is.does tt)))))
+
+  pub ack_carries : (space : SpaceId) (now : ℕ) (ranges : List (ℕ × ℕ)) (ack : Ack)
+      (old new : Sender F Q R C K S M P f c q m r) (acked : Acknowledged)
+      → AckResult space now ranges ack old new (Ok acked) → Carries (losing (lost_by_ack space (Taken acked))) old new
+  ack_carries space now ranges ack old new acked is = by acked.numbers.items refl
+    where
+      by : (numbers : List ℕ) → acked.numbers.items ≡ numbers
+          → Carries (losing (lost_by_ack space (Taken acked))) old new
+      by [] none =
+          let empty = is.none none in
+          as_other none_lost (lost_by_ack space (Taken acked))
+          (λ there. none_of (same_space space there) acked.losses.numbers.items (option_to_list acked.losses.probe)
+          empty.lost.numbers (ap option_to_list empty.lost.probe)) old new
+          (call_carries [] old.variables old new empty.does tt)
+      by (number ∷ numbers) some =
+          acknowledges_carries space now ranges ack is.elicits old new acked (is.some (λ none. absurd cc))

@@ -1,0 +1,63 @@
+-- Worked rows of what is sent again, computed: with the right log the promise holds, and with a wrong one it does not.
+-- Nothing rests on them.
+use Rattle.std.proofs.Common.{◌≡◌, ℕ, true, true≢false, [], ◌∷◌, length, None, Ok, refl, arith}
+use Rattle.std.proofs.lemmas.List.{length-append}
+use Rattle.std.specs.Global.{Vec}
+use Rattle.recovery_base.specs.declared.below.SpaceId.TheVariants.{Data, Initial}
+use Rattle.recovery_sender.specs.declared.sender.losses.Losses.{Losses}
+use Rattle.recovery_sender.specs.declared.sender.probes.Timeout.TheVariants.{Lost}
+use Rattle.recovery_pair.proofs.PairRows.{no_frame}
+use Rattle.recovery_pair.specs.declared.steps.End.TheVariants.{Client, Server}
+use Rattle.recovery_pair.specs.declared.steps.LocalStep.TheVariants.{Discard, Expire, Hand}
+use Rattle.recovery_pair.specs.declared.steps.PairAnswer.TheVariants.{Done, Expired, Nothing, Sent}
+use Rattle.recovery_pair.specs.declared.steps.PairStep.TheVariants.{Local, Send}
+use Rattle.recovery_pair.specs.Logs.{PairEvent, PairLog}
+use Rattle.recovery_pair.specs.Promises.Resends.{AddsItems, ResendsWhatIsLost, lost_in}
+
+-- how many items there are
+counts_items : AddsItems length
+counts_items = record { none = refl; joined = λ items more. length-append items more }
+
+module _ (items other : Vec ℕ) (losses : Losses) (lost : losses.numbers.items ≡ 0 ∷ []) (none : losses.probe ≡ None)
+  where
+    abbrev passed_on : PairLog
+    passed_on = (Send Client Data 5 60, Ok (Sent 0 items true None no_frame))
+        ∷ (Local Client (Hand Data items), Ok Done) ∷ []
+
+    -- number 0 is reported as lost
+    abbrev one_lost : PairLog
+    one_lost = (Local Client (Expire 9), Ok (Expired (Lost Data losses))) ∷ passed_on
+
+    -- these items are sent under number 1
+    abbrev then_sent : Vec ℕ → PairLog
+    then_sent these = (Send Client Data 10 60, Ok (Sent 1 these true None no_frame)) ∷ one_lost
+
+    abbrev nothing_more : PairEvent
+    nothing_more = (Send Client Data 11 60, Ok Nothing)
+
+    it_is_lost : lost_in Client Data length one_lost ≡ length items.items
+    it_is_lost = rw (lost, none) (omega arith)
+
+    not_in_another_space : lost_in Client Initial length one_lost ≡ 0
+    not_in_another_space = refl
+
+    not_at_the_server : lost_in Server Data length one_lost ≡ 0
+    not_at_the_server = refl
+
+    none_is_lost : ResendsWhatIsLost passed_on nothing_more
+    none_is_lost keys measure adds = omega arith
+
+    it_is_sent_again : ResendsWhatIsLost (then_sent items) nothing_more
+    it_is_sent_again keys measure adds = rw (lost, none) (omega arith)
+
+    it_was_not_sent_again : items.items ≡ 7 ∷ [] → ¬ ResendsWhatIsLost one_lost nothing_more
+    it_was_not_sent_again these resends =
+        let most = rw (lost, none, these) at (resends refl length counts_items) in absurd (omega (arith, most))
+
+    too_few_were_sent_again : items.items ≡ 7 ∷ 8 ∷ [] → other.items ≡ 7 ∷ []
+        → ¬ ResendsWhatIsLost (then_sent other) nothing_more
+    too_few_were_sent_again these those resends =
+        let most = rw (lost, none, these, those) at (resends refl length counts_items) in absurd (omega (arith, most))
+
+    not_without_keys : ResendsWhatIsLost ((Local Client (Discard Data 10), Ok Done) ∷ one_lost) nothing_more
+    not_without_keys keys measure adds = absurd (true≢false keys)

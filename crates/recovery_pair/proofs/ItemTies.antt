@@ -1,0 +1,452 @@
+-- The log of two endpoints stays tied to what their senders take, send and lose; so nothing is lost.
+use Rattle.std.proofs.Common.{◌≡◌, ℕ, ◌+◌, ◌≤◌, ◌&&◌, ◌==◌, Bool, true, false, List, [], ◌∷◌, Option, None, Some, Result, Ok, refl, sym, ap, ◌∙◌, arith}
+use Rattle.std.specs.Prelude.{if◌then◌else◌}
+use Rattle.std.specs.Global.{Vec}
+use Rattle.recovery_base.specs.declared.below.SpaceId.{SpaceId}
+use Rattle.recovery_base.specs.Spaces.{same_space}
+use Rattle.recovery_spaces.specs.Discarded.{is_discarded}
+use Rattle.recovery_spaces.specs.Queued.{QueuedState}
+use Rattle.recovery_history.specs.History.{begins, queue_model}
+use Rattle.recovery_sender.specs.Senders.{state_in}
+use Rattle.recovery_sender.specs.declared.sender.Sender.{Sender}
+use Rattle.recovery_sender.specs.declared.sender.SenderError.{SenderError}
+use Rattle.recovery_sender.specs.declared.sender.probes.Timeout.{Timeout}
+use Rattle.recovery_sender.specs.declared.sender.probes.Timeout.TheVariants as timeouts
+use Rattle.recovery_pair.specs.declared.endpoint.Outgoing.TheVariants as outgoing
+use Rattle.recovery_pair.specs.declared.endpoint.Waiting.{Waiting}
+use Rattle.recovery_pair.specs.declared.steps.SentAck.{SentAck}
+use Rattle.recovery_pair.specs.declared.steps.AckOutcome.TheVariants.{NoFrame, Refused, Taken}
+use Rattle.recovery_pair.specs.declared.steps.End.{End}
+use Rattle.recovery_pair.specs.declared.steps.End.TheVariants.{Client, Server}
+use Rattle.recovery_pair.specs.declared.steps.Fate.{Fate}
+use Rattle.recovery_pair.specs.declared.steps.Fate.TheVariants.{Dropped, Duplicate, New}
+use Rattle.recovery_pair.specs.declared.steps.LocalStep.{LocalStep}
+use Rattle.recovery_pair.specs.declared.steps.LocalStep.TheVariants.{Expire, Hand}
+use Rattle.recovery_pair.specs.declared.steps.PairAnswer.{PairAnswer}
+use Rattle.recovery_pair.specs.declared.steps.PairAnswer.TheVariants.{Arrived, Done, Expired, Nothing, Sent}
+use Rattle.recovery_pair.specs.declared.steps.PairStep.{PairStep}
+use Rattle.recovery_pair.specs.declared.steps.PairStep.TheVariants.{Arrive, Local, Send}
+use Rattle.recovery_pair.specs.Carried.{AddsContents, CarriesItems, MovesItems, MovesNone, all_sent_with, amount_of, amount_sent, amount_with, hands_by, lost_by_fate, lost_by_local, lost_by_timeout, none_lost}
+use Rattle.recovery_pair.specs.Logs.{PairEvent, PairLog, handed, other_end, part, sends_of, sent_in, was_discarded}
+use Rattle.recovery_pair.specs.Permits.{HoldsAt, IsIdle, PermitsOutcome}
+use Rattle.recovery_pair.specs.Promises.Resends.{AddsItems, ResendsWhatIsLost, lost_by, lost_in, sent_under, sum_of}
+use Rattle.recovery_pair.specs.Turns.{TurnsAt}
+use Rattle.recovery_pair.specs.Waits.{LosesNone, waiting_in}
+use Rattle.recovery_pair.proofs.ItemMoves.{same_moves}
+use Rattle.recovery_pair.proofs.LogLaws.{IsNoPacket, IsNotLocal}
+use Rattle.recovery_pair.proofs.RequeueLaws.{requeues_lost}
+
+-- ---- what a step adds to the log of one endpoint
+
+pub record AddsToLog (event : PairEvent) (log : PairLog) (end : End) (hands : Option (SpaceId × List ℕ))
+    (sends : Option (SpaceId × ℕ × List ℕ)) (loses : SpaceId → List ℕ) : Type 0 where
+  pub hands_is : (measure : List ℕ → ℕ) (space : SpaceId) → handed end measure space (event ∷ log)
+      ≡ amount_of measure space hands + handed end measure space log
+  pub sends_is : (measure : List ℕ → ℕ) (space : SpaceId) → sent_in end measure space (event ∷ log)
+      ≡ amount_sent measure space sends + sent_in end measure space log
+  pub under_is : (measure : List ℕ → ℕ) (space : SpaceId) (n : ℕ)
+      → sum_of measure (sends_of end space n (event ∷ log))
+      ≡ amount_with measure space n sends + sum_of measure (sends_of end space n log)
+  pub loses_is : (space : SpaceId) → lost_by end space event ≡ loses space
+
+zero_plus : (a : ℕ) → a ≡ 0 + a
+zero_plus a = omega arith
+
+-- nothing
+pub record AddsNothing (event : PairEvent) (log : PairLog) (end : End) : Type 0 where
+  pub hands_same : (measure : List ℕ → ℕ) (space : SpaceId) → handed end measure space (event ∷ log)
+      ≡ handed end measure space log
+  pub sends_same : (measure : List ℕ → ℕ) (space : SpaceId) → sent_in end measure space (event ∷ log)
+      ≡ sent_in end measure space log
+  pub under_same : (space : SpaceId) (n : ℕ) → sends_of end space n (event ∷ log) ≡ sends_of end space n log
+  pub loses_none : (space : SpaceId) → lost_by end space event ≡ []
+
+nothing_added : (event : PairEvent) (log : PairLog) (end : End) → AddsNothing event log end
+    → AddsToLog event log end None None none_lost
+nothing_added event log end adds = record {
+  hands_is = λ measure space. adds.hands_same measure space ∙ zero_plus _;
+  sends_is = λ measure space. adds.sends_same measure space ∙ zero_plus _;
+  under_is = λ measure space n. ap (sum_of measure) (adds.under_same space n) ∙ zero_plus _;
+  loses_is = adds.loses_none;
+}
+
+module _ {F Q R C K S M : Type 0} {f : _} {c : _} {q : _} {m : _} {r : _} where
+  under_past : (end : End) (log : PairLog) (here : Sender F Q R C K S M (List ℕ) f c q m r × List Waiting)
+      (carried : CarriesItems log end here) (measure : List ℕ → ℕ) (space : SpaceId) (numbers : List ℕ)
+      → all_sent_with q.contents measure space numbers carried.own.past ≡ sent_under end space measure numbers log
+  under_past end log here carried measure space [] = refl
+  under_past end log here carried measure space (n ∷ numbers) =
+      let one = carried.sent measure space n in
+      let rest = under_past end log here carried measure space numbers in
+      omega (arith, one, rest)
+
+  -- the tie stays
+  pub carries_on : (event : PairEvent) (log : PairLog) (end : End) (hands : Option (SpaceId × List ℕ))
+      (sends : Option (SpaceId × ℕ × List ℕ)) (loses : SpaceId → List ℕ)
+      (old new : Sender F Q R C K S M (List ℕ) f c q m r × List Waiting) → AddsToLog event log end hands sends loses
+      → MovesItems hands sends loses old new → CarriesItems log end old → CarriesItems (event ∷ log) end new
+  carries_on event log end hands sends loses old new adds moves carried =
+      let own = moves.goes.from carried.own.config carried.own.start carried.own.random carried.own.past
+      carried.own.came in
+      record {
+        own = record {
+          config = carried.own.config;
+          start = carried.own.start;
+          random = carried.own.random;
+          past = own.0;
+          came = own.1;
+        };
+        held = λ measure none space. (
+            let one = carried.held measure none space in
+            let two = moves.balances measure none space in
+            let three = own.2.taken measure space in
+            let four = adds.hands_is measure space in
+            let five = adds.sends_is measure space in omega (arith, one, two, three, four, five));
+        sent = λ measure space n. (
+            let one = carried.sent measure space n in
+            let two = own.2.sent measure space n in
+            let three = adds.under_is measure space n in omega (arith, one, two, three));
+        lost = λ measure space. (
+            let one = carried.lost measure space in
+            let two = own.2.lost measure space in
+            let three = ap (λ (numbers : List ℕ). sent_under end space measure numbers log) (adds.loses_is space) in
+            let four = under_past end log old carried measure space (loses space) in
+            omega (arith, one, two, three, four));
+      }
+
+  -- ---- nothing is lost
+
+  abbrev pub KnowsDiscarded : PairLog → End → Sender F Q R C K S M (List ℕ) f c q m r → Type 0
+  KnowsDiscarded log end sender =
+      (space : SpaceId) → is_discarded space (state_in sender).discarded ≡ was_discarded end space log
+
+  pub resends_all : (log : PairLog) (end : End) (here : Sender F Q R C K S M (List ℕ) f c q m r × List Waiting)
+      (space : SpaceId) → CarriesItems log end here → KnowsDiscarded log end here.0 → IsIdle here.0 space
+      → ((measure : List ℕ → ℕ) → waiting_in measure space here.1 ≡ 0) → was_discarded end space log ≡ false
+      → (measure : List ℕ → ℕ) → AddsItems measure → AddsContents q.words measure
+      → handed end measure space log + lost_in end space measure log ≤ sent_in end measure space log
+  resends_all log end here space carried known idle none keys measure adds contents =
+      let own = carried.own in
+      let dropped = own.came.state_after.discarded space in
+      let active = known space ∙ keys in
+      let all = requeues_lost (begins f.built c.words (queue_model q.contents q.words q.blank) own.config own.start
+      own.random) measure contents space own.past own.came.replies (sym dropped ∙ active) in
+      let waits = ap (λ (queued : QueuedState (List ℕ)). measure queued.pending)
+      (own.came.state_after.spaces space).queued in
+      let empty = ap measure (idle active).1 ∙ contents.none in
+      let held = carried.held measure adds.none space in
+      let lost = carried.lost measure space in
+      let nothing = none measure in
+      omega (arith, all, waits, empty, held, lost, nothing)
+
+  -- ---- one endpoint makes a step, the other does nothing
+
+  abbrev pub ItemsKept : Sender F Q R C K S M (List ℕ) f c q m r × List Waiting
+      → Sender F Q R C K S M (List ℕ) f c q m r × List Waiting → PairStep → Result PairAnswer SenderError
+      → Sender F Q R C K S M (List ℕ) f c q m r × List Waiting
+      → Sender F Q R C K S M (List ℕ) f c q m r × List Waiting → Type 0
+  ItemsKept client server step answer client_after server_after = (log : PairLog)
+      → KnowsDiscarded log Client client.0 → KnowsDiscarded log Server server.0 → CarriesItems log Client client
+      → CarriesItems log Server server → ResendsWhatIsLost log (step, answer)
+      × CarriesItems ((step, answer) ∷ log) Client client_after
+      × CarriesItems ((step, answer) ∷ log) Server server_after
+
+  idle_on : (event : PairEvent) (log : PairLog) (end : End)
+      (old new : Sender F Q R C K S M (List ℕ) f c q m r × List Waiting) → AddsNothing event log end → new ≡ old
+      → CarriesItems log end old → CarriesItems (event ∷ log) end new
+  idle_on event log end old new adds same =
+      carries_on event log end None None none_lost old new (nothing_added event log end adds)
+      (same_moves old.0 new.0 old.1 new.1
+      (ap (λ (it : Sender F Q R C K S M (List ℕ) f c q m r × List Waiting). it.0) same)
+      (ap (λ (it : Sender F Q R C K S M (List ℕ) f c q m r × List Waiting). it.1) same))
+
+  abbrev pub HoldsOf : End → (Sender F Q R C K S M (List ℕ) f c q m r × List Waiting → Type 0)
+      → Sender F Q R C K S M (List ℕ) f c q m r × List Waiting
+      → Sender F Q R C K S M (List ℕ) f c q m r × List Waiting → Type 0
+  HoldsOf Client Holds client server = Holds client
+  HoldsOf Server Holds client server = Holds server
+
+  pub items_turn : (end : End) (hands : Option (SpaceId × List ℕ)) (sends : Option (SpaceId × ℕ × List ℕ))
+      (loses : SpaceId → List ℕ) (step : PairStep) (answer : Result PairAnswer SenderError)
+      (Also : Sender F Q R C K S M (List ℕ) f c q m r × List Waiting → Type 0)
+      → ((log : PairLog) (here : Sender F Q R C K S M (List ℕ) f c q m r × List Waiting) → Also here
+      → KnowsDiscarded log end here.0 → CarriesItems log end here → ResendsWhatIsLost log (step, answer))
+      → ((log : PairLog) → AddsToLog (step, answer) log end hands sends loses)
+      → ((log : PairLog) → AddsNothing (step, answer) log (other_end end))
+      → (client server client_after server_after : Sender F Q R C K S M (List ℕ) f c q m r × List Waiting)
+      → HoldsOf end Also client server
+      → TurnsAt end (MovesItems hands sends loses) client server client_after server_after
+      → ItemsKept client server step answer client_after server_after
+  items_turn Client hands sends loses step answer Also resends adds idle client server client_after server_after also
+      turns log own_keys peer_keys own peer = (
+        resends log client also own_keys own,
+        carries_on (step, answer) log Client hands sends loses client client_after (adds log) turns.0 own,
+        idle_on (step, answer) log Server server server_after (idle log) turns.1 peer,
+      )
+  items_turn Server hands sends loses step answer Also resends adds idle client server client_after server_after also
+      turns log own_keys peer_keys own peer = (
+        resends log server also peer_keys peer,
+        idle_on (step, answer) log Client client client_after (idle log) turns.1 own,
+        carries_on (step, answer) log Server hands sends loses server server_after (adds log) turns.0 peer,
+      )
+
+  -- nothing else is known
+  abbrev pub Any : Sender F Q R C K S M (List ℕ) f c q m r × List Waiting → Type 0
+  Any here = Unit {0}
+
+  any_of : (end : End) (client server : Sender F Q R C K S M (List ℕ) f c q m r × List Waiting)
+      → HoldsOf end Any client server
+  any_of Client client server = tt
+  any_of Server client server = tt
+
+-- ---- a packet is sent
+
+module _ (log : PairLog) (space : SpaceId) (now size n : ℕ) (items : Vec ℕ) (eliciting : Bool) (window : Option ℕ)
+    (ack : SentAck) where
+  abbrev goes_out : End → PairEvent
+  goes_out end = (Send end space now size, Ok (Sent n items eliciting window ack))
+
+  under_if : (b : Bool) (measure : List ℕ → ℕ) (more : List (List ℕ))
+      → sum_of measure (if b then items.items ∷ more else more) ≡ part b (measure items.items) + sum_of measure more
+  under_if true measure more = refl
+  under_if false measure more = zero_plus _
+
+  sent_adds : (end : End) → AddsToLog (goes_out end) log end None (Some (space, n, items.items)) none_lost
+  sent_adds Client = record {
+    hands_is = λ measure there. zero_plus _;
+    sends_is = λ measure there. refl;
+    under_is = λ measure there k. under_if (same_space space there && n == k) measure (sends_of Client there k log);
+    loses_is = λ there. refl;
+  }
+  sent_adds Server = record {
+    hands_is = λ measure there. zero_plus _;
+    sends_is = λ measure there. refl;
+    under_is = λ measure there k. under_if (same_space space there && n == k) measure (sends_of Server there k log);
+    loses_is = λ there. refl;
+  }
+
+  sent_adds_not : (end : End) → AddsNothing (goes_out end) log (other_end end)
+  sent_adds_not Client = record {
+    hands_same = λ measure there. refl;
+    sends_same = λ measure there. sym (zero_plus (sent_in Server measure there log));
+    under_same = λ there k. refl;
+    loses_none = λ there. refl;
+  }
+  sent_adds_not Server = record {
+    hands_same = λ measure there. refl;
+    sends_same = λ measure there. sym (zero_plus (sent_in Client measure there log));
+    under_same = λ there k. refl;
+    loses_none = λ there. refl;
+  }
+
+-- ---- a step by which nothing is sent and nothing arrives
+
+send_idle : (log : PairLog) (at end : End) (space : SpaceId) (now size : ℕ) (answer : Result PairAnswer SenderError)
+    → IsNoPacket (Send end space now size, answer) → AddsNothing (Send end space now size, answer) log at
+send_idle log at end space now size (Ok (Sent n items eliciting window ack)) none = absurd none
+send_idle log at end space now size answer none = record {
+  hands_same = λ measure there. refl;
+  sends_same = λ measure there. refl;
+  under_same = λ there k. refl;
+  loses_none = λ there. refl;
+}
+
+arrive_idle : (log : PairLog) (end : End) (at now : ℕ) (answer : Result PairAnswer SenderError)
+    → IsNoPacket (Arrive at now, answer) → AddsNothing (Arrive at now, answer) log end
+arrive_idle log end at now (Ok (Arrived to space n size fate)) none = absurd none
+arrive_idle log end at now answer none = record {
+  hands_same = λ measure there. refl;
+  sends_same = λ measure there. refl;
+  under_same = λ there k. refl;
+  loses_none = λ there. refl;
+}
+
+step_idle : (log : PairLog) (end : End) (step : PairStep) (answer : Result PairAnswer SenderError)
+    → IsNoPacket (step, answer) → IsNotLocal step → AddsNothing (step, answer) log end
+step_idle log end (Send at space now size) answer none other = send_idle log end at space now size answer none
+step_idle log end (Arrive at now) answer none other = arrive_idle log end at now answer none
+step_idle log end (Local at step) answer none other = absurd other
+
+-- ---- a packet arrives
+
+module _ (log : PairLog) (at now : ℕ) (space : SpaceId) (n size : ℕ) where
+  lost_at_it : (to : End) (fate : Fate) (there : SpaceId)
+      → lost_by to there (Arrive at now, Ok (Arrived to space n size fate)) ≡ lost_by_fate space (Ok fate) there
+  lost_at_it Client (New items (Taken acked)) there = refl
+  lost_at_it Server (New items (Taken acked)) there = refl
+  lost_at_it to (New items NoFrame) there = refl
+  lost_at_it to (New items (Refused refusal)) there = refl
+  lost_at_it to Duplicate there = refl
+  lost_at_it to (Dropped refusal) there = refl
+
+  lost_not_there : (to : End) (fate : Fate) (there : SpaceId)
+      → lost_by (other_end to) there (Arrive at now, Ok (Arrived to space n size fate)) ≡ []
+  lost_not_there Client (New items (Taken acked)) there = refl
+  lost_not_there Server (New items (Taken acked)) there = refl
+  lost_not_there to (New items NoFrame) there = refl
+  lost_not_there to (New items (Refused refusal)) there = refl
+  lost_not_there to Duplicate there = refl
+  lost_not_there to (Dropped refusal) there = refl
+
+  arrived_adds : (to : End) (fate : Fate) → AddsToLog (Arrive at now, Ok (Arrived to space n size fate)) log to None
+      None (lost_by_fate space (Ok fate))
+  arrived_adds to fate = record {
+    hands_is = λ measure there. zero_plus _;
+    sends_is = λ measure there. zero_plus _;
+    under_is = λ measure there k. zero_plus _;
+    loses_is = lost_at_it to fate;
+  }
+
+  arrived_adds_not : (to : End) (fate : Fate)
+      → AddsNothing (Arrive at now, Ok (Arrived to space n size fate)) log (other_end to)
+  arrived_adds_not to fate = record {
+    hands_same = λ measure there. refl;
+    sends_same = λ measure there. refl;
+    under_same = λ there k. refl;
+    loses_none = lost_not_there to fate;
+  }
+
+-- ---- something happens at one endpoint
+
+module _ (log : PairLog) where
+  passed_here : (end : End) (measure : List ℕ → ℕ) (there space : SpaceId) (items : Vec ℕ)
+      → handed end measure there ((Local end (Hand space items), Ok Done) ∷ log)
+      ≡ part (same_space space there) (measure items.items) + handed end measure there log
+  passed_here Client measure there space items = refl
+  passed_here Server measure there space items = refl
+
+  passes_is : (end : End) (step : LocalStep) (answer : Result PairAnswer SenderError) (measure : List ℕ → ℕ)
+      (there : SpaceId) → handed end measure there ((Local end step, answer) ∷ log)
+      ≡ amount_of measure there (hands_by step answer) + handed end measure there log
+  passes_is end (Hand space items) (Ok Done) measure there = passed_here end measure there space items
+  passes_is end (Hand space items) answer measure there = zero_plus _
+  passes_is end step answer measure there = zero_plus _
+
+  passes_not : (end : End) (step : LocalStep) (answer : Result PairAnswer SenderError) (measure : List ℕ → ℕ)
+      (there : SpaceId)
+      → handed (other_end end) measure there ((Local end step, answer) ∷ log) ≡ handed (other_end end) measure there log
+  passes_not Client (Hand space items) (Ok Done) measure there = sym (zero_plus (handed Server measure there log))
+  passes_not Server (Hand space items) (Ok Done) measure there = sym (zero_plus (handed Client measure there log))
+  passes_not end (Hand space items) answer measure there = refl
+  passes_not end step answer measure there = refl
+
+timer_is : (end : End) (now : ℕ) (timeout : Timeout) (there : SpaceId)
+    → lost_by end there (Local end (Expire now), Ok (Expired timeout)) ≡ lost_by_timeout (Ok timeout) there
+timer_is Client now (timeouts.Lost space losses) there = refl
+timer_is Server now (timeouts.Lost space losses) there = refl
+timer_is end now timeout there = refl
+
+timer_not : (end : End) (now : ℕ) (timeout : Timeout) (there : SpaceId)
+    → lost_by (other_end end) there (Local end (Expire now), Ok (Expired timeout)) ≡ []
+timer_not Client now (timeouts.Lost space losses) there = refl
+timer_not Server now (timeouts.Lost space losses) there = refl
+timer_not end now timeout there = refl
+
+local_is : (end : End) (step : LocalStep) (answer : Result PairAnswer SenderError) (there : SpaceId)
+    → lost_by end there (Local end step, answer) ≡ lost_by_local step answer there
+local_is end (Expire now) (Ok (Expired timeout)) there = timer_is end now timeout there
+local_is end (Expire now) answer there = refl
+local_is end step answer there = refl
+
+local_not : (end : End) (step : LocalStep) (answer : Result PairAnswer SenderError) (there : SpaceId)
+    → lost_by (other_end end) there (Local end step, answer) ≡ []
+local_not end (Expire now) (Ok (Expired timeout)) there = timer_not end now timeout there
+local_not end (Expire now) answer there = refl
+local_not end step answer there = refl
+
+-- ---- each kind of step
+
+module _ {F Q R C K S M : Type 0} {f : _} {c : _} {q : _} {m : _} {r : _} where
+  pub sent_items : (end : End) (space : SpaceId) (now size n : ℕ) (items : Vec ℕ) (eliciting : Bool)
+      (window : Option ℕ) (ack : SentAck)
+      (client server client_after server_after : Sender F Q R C K S M (List ℕ) f c q m r × List Waiting)
+      → TurnsAt end (MovesItems None (Some (space, n, items.items)) none_lost) client server client_after server_after
+      → ItemsKept client server (Send end space now size) (Ok (Sent n items eliciting window ack)) client_after
+      server_after
+  sent_items end space now size n items eliciting window ack client server client_after server_after =
+      items_turn end None (Some (space, n, items.items)) none_lost (Send end space now size)
+      (Ok (Sent n items eliciting window ack)) Any (λ log here also known carried. tt)
+      (λ log. sent_adds log space now size n items eliciting window ack end)
+      (λ log. sent_adds_not log space now size n items eliciting window ack end) client server client_after
+      server_after (any_of end client server)
+
+  -- nothing is sent, and nothing arrives
+  pub idle_items : (end : End) (step : PairStep) (answer : Result PairAnswer SenderError)
+      (client server client_after server_after : Sender F Q R C K S M (List ℕ) f c q m r × List Waiting)
+      → IsNoPacket (step, answer) → IsNotLocal step → ((log : PairLog) → ResendsWhatIsLost log (step, answer))
+      → TurnsAt end MovesNone client server client_after server_after
+      → ItemsKept client server step answer client_after server_after
+  idle_items end step answer client server client_after server_after none other resends =
+      items_turn end None None none_lost step answer Any (λ log here also known carried. resends log)
+      (λ log. nothing_added (step, answer) log end (step_idle log end step answer none other))
+      (λ log. step_idle log (other_end end) step answer none other) client server client_after server_after
+      (any_of end client server)
+
+  -- nothing at all happens
+  pub same_items : (step : PairStep) (answer : Result PairAnswer SenderError)
+      (client server : Sender F Q R C K S M (List ℕ) f c q m r × List Waiting)
+      → IsNoPacket (step, answer) → IsNotLocal step → ((log : PairLog) → ResendsWhatIsLost log (step, answer))
+      → ItemsKept client server step answer client server
+  same_items step answer client server none other resends =
+      idle_items Client step answer client server client server none other resends
+      (same_moves client.0 client.0 client.1 client.1 refl refl, refl)
+
+  -- there is nothing to send
+  abbrev pub IsIdleHere : SpaceId → Sender F Q R C K S M (List ℕ) f c q m r × List Waiting → Type 0
+  IsIdleHere space here = IsIdle here.0 space × ((measure : List ℕ → ℕ) → waiting_in measure space here.1 ≡ 0)
+
+  idle_here : (end : End) (space : SpaceId) (now size : ℕ)
+      (client server client_after server_after : Sender F Q R C K S M (List ℕ) f c q m r × List Waiting)
+      → HoldsAt end (PermitsOutcome space now size (Ok outgoing.Nothing)) client.0 server.0
+      → TurnsAt end (λ (old new : List Waiting). LosesNone old new
+      × ((measure : List ℕ → ℕ) → waiting_in measure space old ≡ 0)) client.1 server.1 client_after.1 server_after.1
+      → HoldsOf end (IsIdleHere space) client server
+  idle_here Client space now size client server client_after server_after permits waits = (permits.1, waits.0.1)
+  idle_here Server space now size client server client_after server_after permits waits = (permits.1, waits.0.1)
+
+  pub nothing_items : (end : End) (space : SpaceId) (now size : ℕ)
+      (client server client_after server_after : Sender F Q R C K S M (List ℕ) f c q m r × List Waiting)
+      → ((measure : List ℕ → ℕ) → AddsItems measure → AddsContents q.words measure)
+      → HoldsAt end (PermitsOutcome space now size (Ok outgoing.Nothing)) client.0 server.0
+      → TurnsAt end (λ (old new : List Waiting). LosesNone old new
+      × ((measure : List ℕ → ℕ) → waiting_in measure space old ≡ 0)) client.1 server.1 client_after.1 server_after.1
+      → TurnsAt end MovesNone client server client_after server_after
+      → ItemsKept client server (Send end space now size) (Ok Nothing) client_after server_after
+  nothing_items end space now size client server client_after server_after adds idle waits =
+      items_turn end None None none_lost (Send end space now size) (Ok Nothing) (IsIdleHere space)
+      (λ log here also known carried keys measure items. resends_all log end here space carried known also.0 also.1 keys
+      measure items (adds measure items))
+      (λ log. nothing_added (Send end space now size, Ok Nothing) log end
+      (step_idle log end (Send end space now size) (Ok Nothing) tt tt))
+      (λ log. step_idle log (other_end end) (Send end space now size) (Ok Nothing) tt tt) client server client_after
+      server_after (idle_here end space now size client server client_after server_after idle waits)
+
+  pub arrived_items : (to : End) (at now : ℕ) (space : SpaceId) (n size : ℕ) (fate : Fate)
+      (client server client_after server_after : Sender F Q R C K S M (List ℕ) f c q m r × List Waiting)
+      → TurnsAt to (MovesItems None None (lost_by_fate space (Ok fate))) client server client_after server_after
+      → ItemsKept client server (Arrive at now) (Ok (Arrived to space n size fate)) client_after server_after
+  arrived_items to at now space n size fate client server client_after server_after =
+      items_turn to None None (lost_by_fate space (Ok fate)) (Arrive at now) (Ok (Arrived to space n size fate)) Any
+      (λ log here also known carried. tt) (λ log. arrived_adds log at now space n size to fate)
+      (λ log. arrived_adds_not log at now space n size to fate) client server client_after server_after
+      (any_of to client server)
+
+  pub local_items : (end : End) (step : LocalStep) (answer : Result PairAnswer SenderError)
+      (client server client_after server_after : Sender F Q R C K S M (List ℕ) f c q m r × List Waiting)
+      → TurnsAt end (MovesItems (hands_by step answer) None (lost_by_local step answer)) client server client_after
+      server_after → ItemsKept client server (Local end step) answer client_after server_after
+  local_items end step answer client server client_after server_after =
+      items_turn end (hands_by step answer) None (lost_by_local step answer) (Local end step) answer Any
+      (λ log here also known carried. tt)
+      (λ log. record {
+        hands_is = passes_is log end step answer;
+        sends_is = λ measure there. zero_plus _;
+        under_is = λ measure there k. zero_plus _;
+        loses_is = local_is end step answer;
+      })
+      (λ log. record {
+        hands_same = passes_not log end step answer;
+        sends_same = λ measure there. refl;
+        under_same = λ there k. refl;
+        loses_none = local_not end step answer;
+      }) client server client_after server_after (any_of end client server)
