@@ -10,7 +10,7 @@ use Rattle.recovery_replay.specs.declared.outcome.Outcome.{Outcome}
 
 -- ---- fronts
 
-take_behind : (front bytes : List ℕ) (n : ℕ) → take (length front + n) (front ++ bytes) ≡ front ++ take n bytes
+pub take_behind : (front bytes : List ℕ) (n : ℕ) → take (length front + n) (front ++ bytes) ≡ front ++ take n bytes
 take_behind [] bytes n = ap (λ (k : ℕ). take k bytes) (let e : 0 + n ≡ n = omega arith in e)
 take_behind (byte ∷ front) bytes n =
     ap (λ (k : ℕ). take k (byte ∷ (front ++ bytes)))

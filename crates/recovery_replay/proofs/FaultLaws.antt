@@ -1,10 +1,11 @@
 -- The spaces before a word, and what begins a line: `fault_beside` and `is_joined` rest on it.
-use Rattle.std.proofs.Common.{◌≡◌, ◌≢◌, ℕ, zero, suc, ◌+◌, ◌-◌, ◌<◌, ◌≤◌, ◌==◌, cond, Bool, List, ◌++◌, length, take, slice_index, Result, Ok, Err, IfOk, IsTrue, ap, subst, ◌∙◌, append_assoc, arith}
+use Rattle.std.proofs.Common.{◌≡◌, ◌≢◌, ℕ, zero, suc, ◌+◌, ◌-◌, ◌<◌, ◌≤◌, ◌==◌, cond, Bool, List, ◌++◌, length, take, slice_index, Option, Some, None, is_some, IsTrue, ap, subst, ◌∙◌, append_assoc, arith}
 use Rattle.std.specs.List.{count_by}
 use Rattle.std.proofs.lemmas.Bool.Decides.{nat_tests}
 use Rattle.std.proofs.lemmas.List.{take_more}
 use Rattle.std.proofs.lemmas.List.Sums.{sum_by_push}
 use Rattle.recovery_replay.specs.Faults.{EndsWord, IsPrefix}
+use Rattle.recovery_script_syntax.specs.Forms.{IsItemOf, IsLineOf}
 
 abbrev pub spaces : List ℕ → ℕ
 spaces bytes = count_by (λ byte. byte == 32) bytes
@@ -37,9 +38,9 @@ counted_more line start end number word le counted =
     grind (arith, nat_tests, one_more line end (omega (arith, le)), rw apart at same, here, counted)
 
 -- a line of three parts begins with the first
-pub joined_begins : {E : Type 0} (IsLine : List ℕ → Type 0) (front behind end line : List ℕ) (has : Result Bool E)
-    → line ≡ front ++ behind ++ end → IfOk has (λ is. IsTrue is → IsLine line)
-    → IfOk has (λ is. IsTrue is → IsPrefix IsLine front)
-joined_begins IsLine front behind end line (Ok is) e h =
-    λ true. (behind ++ end, subst IsLine (e ∙ append_assoc front behind end) (h true))
-joined_begins IsLine front behind end line (Err refused) e h = tt
+pub joined_begins : {T : Type 0} (encodes : List ℕ → T → Type 0) (front behind end line : List ℕ) (item : Option T)
+    → line ≡ front ++ behind ++ end → IsItemOf encodes line item → IsTrue (is_some item)
+    → IsPrefix (IsLineOf encodes) front
+joined_begins encodes front behind end line (Some item) e said true =
+    (behind ++ end, subst (IsLineOf encodes) (e ∙ append_assoc front behind end) (item, said))
+joined_begins encodes front behind end line None e said true = grind (arith, true)

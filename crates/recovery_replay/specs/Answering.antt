@@ -1,10 +1,14 @@
 -- What a program writes of answers, a line for each, until a write or an allocation fails.
-use Rattle.std.specs.Prelude.{◌≡◌, ℕ, ◌⊎◌, List, Option, None, Some}
+use Rattle.std.specs.Prelude.{◌≡◌, ℕ, ◌⊎◌, List, ◌++◌, Option, None, Some, String, string_bytes}
 use Rattle.std.specs.Io.KnownBytes.{Appends, Keeps}
 use Rattle.recovery_replay.specs.Outcomes.{IsBroken}
 use Rattle.recovery_replay.specs.Writing.{AppendsFront}
 use Rattle.recovery_replay.specs.declared.outcome.Outcome.{Outcome}
 use Rattle.recovery_replay.specs.declared.outcome.Outcome.TheVariants.{OutOfMemory}
+
+-- this text was appended
+abbrev pub ExtendsText : {Z : Type 0} → String Z → List ℕ → String Z → Type 0
+ExtendsText old text new = string_bytes new ≡ string_bytes old ++ text
 
 -- a write or an allocation failed
 abbrev pub IsFailure : Outcome → Type 0

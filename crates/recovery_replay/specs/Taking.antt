@@ -1,19 +1,10 @@
 -- What processing bytes does to a script that is being read, and which events it gives.
 use Rattle.std.specs.Prelude.{◌≡◌, ℕ, ◌+◌, Bool, true, false, List, [], ◌∷◌, ◌++◌, length}
-use Rattle.recovery_events.specs.Feeding.{TakesAll}
 use Rattle.recovery_replay.specs.declared.script.Ending.{Ending}
 use Rattle.recovery_replay.specs.declared.script.Ending.TheVariants.{BadLine}
 use Rattle.recovery_replay.specs.declared.script.Script.{Script}
 use Rattle.recovery_script_syntax.specs.Lines.{ItemEvent, EncodesEvent}
 use Rattle.recovery_replay.specs.Script.{ParsesScript, SaysThenCut}
-
--- a sink took these events, and they are what was read
-pub record YieldsParsed {S : Type 0} (takes : S → ItemEvent → S → Type 0) (AreRead : List ItemEvent → Type 0)
-    (old new : S)
-    : Type 0 where
-  pub events : List ItemEvent
-  pub taken : TakesAll takes old events new
-  pub read : AreRead events
 
 -- the bytes so far encode these events, and the script's line is the one that they cut
 pub record ParsedSoFar (taken : List ℕ) (events : List ItemEvent) (script : Script) : Type 0 where

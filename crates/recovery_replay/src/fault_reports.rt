@@ -2,6 +2,7 @@
 ghost use Rattle.std.specs.Prelude.{◌≡◌, ◌≤◌, ◌++◌, true, min, IfOk, OnOk, length, string_bytes};
 ghost use Rattle.recovery_replay.specs.Faults.{NamesWordOf};
 ghost use Rattle.std.specs.Str.{IsAscii};
+ghost use Rattle.recovery_script_syntax.specs.Forms.{IsLineOf};
 ghost use Rattle.recovery_replay.specs.FaultReports.{ReportsFault, TellsFault, quoted, most_shown};
 
 use crate::faults::{Fault, Grammar, fault_in};
@@ -53,7 +54,7 @@ fn write_fault<G: Grammar>(
     number: u64,
     fault: Fault,
 ) -> Result<(), AllocError>
-    requires { NamesWordOf G.is_line line.now fault }
+    requires { NamesWordOf (IsLineOf G.encodes) line.now fault }
     ensures { OnOk result
         (TellsFault line.now number fault (string_bytes text.old) (string_bytes text.new)) }
 {
@@ -75,7 +76,8 @@ fn write_fault<G: Grammar>(
 
 /// Returns the report of a line of this number that the grammar does not have.
 pub fn fault_line<G: Grammar>(alloc: Global, line: &[u8], number: u64) -> Result<String, NoMemory>
-    ensures { IfOk result (λ text. ReportsFault G.is_line line.now number (string_bytes text)) }
+    ensures { IfOk result
+        (λ text. ReportsFault (IsLineOf G.encodes) line.now number (string_bytes text)) }
 {
     let mut text = String::new(alloc);
     let fault = match fault_in::<G>(alloc, line) {

@@ -1,26 +1,34 @@
-//! Why a line of an input cannot be read: which of its words does not fit.
+//! Why a line of an input cannot be read: the report names the first word that fits no line.
 ghost use Rattle.std.specs.Prelude.{◌≡◌, ◌≤◌, ℕ, List, IfOk, IsTrue, MatchBool, length};
 ghost use Rattle.recovery_replay.specs.Faults.{IsPrefix, EndsWord, NamesWordOf, IsSilent};
+ghost use Rattle.recovery_script_syntax.specs.Forms.{IsItemOf, IsLineOf};
 ghost use Rattle.recovery_script_syntax.specs.Words.{longest_line};
 
 use recovery_base::below::NoMemory;
 use recovery_script_syntax::lines::LINE_LIMIT;
 use std::alloc::Global;
 
-/// What may follow the words of a line of any length: a number, two, or three.
+/// What may stand after the words of a line that has a list: nothing, one number, two or three.
 const ENDS: [&str; 4] = ["", " 0", " 0 0", " 0 0 0"];
 
-/// The lines that a program reads.
+/// The grammar of the lines that a program reads: each line encodes an item, or none.
 pub trait Grammar {
-    /// Whether the grammar has a line.
-    ghost is_line: { List ℕ → Type 0 };
+    /// What a line encodes.
+    type Item: Drop;
 
-    /// Returns a line of the grammar that begins with this name, with words that fit, if there is one.
+    /// Whether a line encodes an item.
+    ghost encodes: { List ℕ → Self.Item → Type 0 };
+
+    /// Such a line has at most 4096 bytes.
+    ghost are_short: { (line : List ℕ) (item : Self.Item) → encodes line item
+        → length line ≤ longest_line };
+
+    /// Returns a line of the grammar whose first word is this name, if there is one. Its other words are examples.
     fn example_of(name: &[u8]) -> Option<&'static [u8]>;
 
-    /// Returns whether a line is one of the grammar. It says so of lines only.
-    fn has(alloc: Global, line: &[u8]) -> Result<bool, NoMemory>
-        ensures { IfOk result (λ has. IsTrue has → is_line line.now) };
+    /// Returns the item of a line, given without its line feed, or `None` if the line encodes none.
+    fn item_in(alloc: Global, line: &[u8]) -> Result<Option<Self::Item>, NoMemory>
+        ensures { IfOk result (IsItemOf encodes line.now) };
 }
 
 /// Why a line cannot be read.
@@ -86,18 +94,19 @@ fn is_joined<G: Grammar>(
     behind: &[u8],
     end: &[u8],
 ) -> Result<bool, NoMemory>
-    ensures { IfOk result (λ is. IsTrue is → IsPrefix G.is_line front.now) }
+    ensures { IfOk result (λ is. IsTrue is → IsPrefix (IsLineOf G.encodes) front.now) }
 {
     let mut line = Vec::new(alloc);
     line.extend_from_slice(front)?;
     line.extend_from_slice(behind)?;
     line.extend_from_slice(end)?;
-    G::has(alloc, &line)
+    let item = G::item_in(alloc, &line)?;
+    Ok(item.is_some())
 }
 
 /// Returns whether these bytes begin a line, with this continuation or a longer one.
 fn begins<G: Grammar>(alloc: Global, front: &[u8], behind: &[u8]) -> Result<bool, NoMemory>
-    ensures { IfOk result (λ does. IsTrue does → IsPrefix G.is_line front.now) }
+    ensures { IfOk result (λ does. IsTrue does → IsPrefix (IsLineOf G.encodes) front.now) }
 {
     for end in ENDS {
         if is_joined::<G>(alloc, front, behind, end.as_bytes())? {
@@ -110,7 +119,7 @@ fn begins<G: Grammar>(alloc: Global, front: &[u8], behind: &[u8]) -> Result<bool
 /// Returns the first word of a line that cannot continue as the example does.
 fn fault_beside<G: Grammar>(alloc: Global, line: &[u8], example: &[u8]) -> Result<Fault, NoMemory>
     requires { length line.now ≤ longest_line }
-    ensures { IfOk result (NamesWordOf G.is_line line.now) }
+    ensures { IfOk result (NamesWordOf (IsLineOf G.encodes) line.now) }
 {
     let mut behind = example;
     let mut start = 0;
@@ -132,7 +141,7 @@ fn fault_beside<G: Grammar>(alloc: Global, line: &[u8], example: &[u8]) -> Resul
 /// Returns why a line that the grammar does not have cannot be read. What precedes the reported word begins a line of
 /// the grammar.
 pub fn fault_in<G: Grammar>(alloc: Global, line: &[u8]) -> Result<Fault, NoMemory>
-    ensures { IfOk result (NamesWordOf G.is_line line.now) }
+    ensures { IfOk result (NamesWordOf (IsLineOf G.encodes) line.now) }
 {
     if line.len() > LINE_LIMIT {
         return Ok(Fault::TooLong);

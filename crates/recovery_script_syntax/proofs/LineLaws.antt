@@ -43,7 +43,7 @@ pub line_only : (line : List ℕ) (event : ItemEvent) → EncodesEvent line even
 unfolding line_of
 line_only line event s =
     let by : Saying = saying s.unkept event in
-    (by.0.line by.1, rw (s.words, (line_again s.unkept event s.within).0) refl, s.within.1)
+    (by.0.make by.1, rw (s.words, (line_again s.unkept event s.within).0) refl, s.within.1)
 
 one_meant : (said : Line) (first second : ItemEvent) → DenotesEvent said first → DenotesEvent said second
     → IsSameEvent first second

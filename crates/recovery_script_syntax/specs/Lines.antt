@@ -30,6 +30,7 @@ use Rattle.recovery_base.specs.Ids.{reset_token_size}
 use Rattle.recovery_script_syntax.specs.declared.forms.Line.{Line}
 use Rattle.recovery_script_syntax.specs.declared.forms.Line.TheVariants.{Said, Ids, Path}
 use Rattle.recovery_script_syntax.specs.Fields.{Field, Values, words_for, AllFitFieldTypes}
+use Rattle.recovery_script_syntax.specs.Forms.{Form, FormValues, plain_form}
 use Rattle.recovery_script_syntax.specs.Fields.{Tail, no_tail, an_item_tail}
 use Rattle.recovery_script_syntax.specs.Fields.{a_space, a_timer, a_path, a_flag, a_largest}
 use Rattle.recovery_script_syntax.specs.Fields.{a_u64, a_span, a_u16, a_var_int, a_byte, a_count}
@@ -84,46 +85,34 @@ DenotesEvent (Ids now first count) event =
 DenotesEvent (Path now port fresh) event =
     (remote : SocketAddr) × (event ≡ NewPath now remote fresh) × IsDocumentationAddress port remote
 
--- a line's name, the fields after it and what may follow them, and the meaning of their values
-pub record Form : Type 0 where
-  pub name : List ℕ
-  pub fields : List Field
-  pub tail : Tail
-  pub line : Values tail fields → Line
-
--- a line's fields with their values
-abbrev pub FormValues : Form → Type 0
-FormValues form = Values form.tail form.fields
+-- the forms of events
+abbrev pub EventForm : Type 0
+EventForm = Form Line
 
 -- fields that make an event, after a name
-abbrev pub form_of : List ℕ → (fields : List Field) → (Values no_tail fields → ItemEvent) → Form
-form_of name fields event = record {
-  name = name;
-  fields = fields;
-  tail = no_tail;
-  line = λ x. Said (event x);
-}
+abbrev pub form_of : List ℕ → (fields : List Field) → (Values no_tail fields → ItemEvent) → EventForm
+form_of name fields event = plain_form name fields (λ x. Said (event x))
 
-abbrev pub received : Form
+abbrev pub received : EventForm
 received = form_of (codes "received") (a_space ∷ a_u64 ∷ a_u64 ∷ a_flag ∷ [])
     (λ x. Received x.0 x.1.0 x.1.1.0 x.1.1.1.0)
 
 -- its fields are followed by the items of the packet's queue, in their order
-abbrev pub send : Form
+abbrev pub send : EventForm
 send = record {
   name = codes "send";
   fields = a_space ∷ a_u64 ∷ a_u16 ∷ a_flag ∷ a_largest ∷ [];
   tail = an_item_tail;
-  line = λ x. Said (Send x.0 x.1.0 x.1.1.0 x.1.1.1.0 x.1.1.1.1.0 x.1.1.1.1.1 tt);
+  make = λ x. Said (Send x.0 x.1.0 x.1.1.0 x.1.1.1.0 x.1.1.1.1.0 x.1.1.1.1.1 tt);
 }
 
-abbrev pub acked : Form
+abbrev pub acked : EventForm
 acked = form_of (codes "acked") (a_space ∷ a_u64 ∷ a_u64 ∷ a_flag ∷ []) (λ x. Acked x.0 x.1.0 x.1.1.0 x.1.1.1.0)
 
-abbrev pub lost : Form
+abbrev pub lost : EventForm
 lost = form_of (codes "lost") (a_space ∷ a_u64 ∷ []) (λ x. Lost x.0 x.1.0)
 
-abbrev pub new_id : Form
+abbrev pub new_id : EventForm
 new_id = form_of (codes "new-id") (a_u64 ∷ a_u64 ∷ a_byte ∷ [])
     (λ x. NewId (record {
       sequence = x.0;
@@ -132,27 +121,27 @@ new_id = form_of (codes "new-id") (a_u64 ∷ a_u64 ∷ a_byte ∷ [])
       reset_token = token_of x.1.1.0;
     }))
 
-abbrev pub next_id : Form
+abbrev pub next_id : EventForm
 next_id = form_of (codes "next-id") [] (λ x. NextId)
 
-abbrev pub initial_id : Form
+abbrev pub initial_id : EventForm
 initial_id = form_of (codes "initial-id") (a_byte ∷ []) (λ x. InitialId (id_of x.0))
 
-abbrev pub issue_ids : Form
+abbrev pub issue_ids : EventForm
 issue_ids = record {
   name = codes "issue-ids";
   fields = a_u64 ∷ a_u64 ∷ a_count ∷ [];
   tail = no_tail;
-  line = λ x. Ids x.0 x.1.0 x.1.1.0;
+  make = λ x. Ids x.0 x.1.0 x.1.1.0;
 }
 
-abbrev pub id_timeout : Form
+abbrev pub id_timeout : EventForm
 id_timeout = form_of (codes "id-timeout") [] (λ x. IdTimeout)
 
-abbrev pub peer_retired : Form
+abbrev pub peer_retired : EventForm
 peer_retired = form_of (codes "peer-retired") (a_u64 ∷ a_u64 ∷ []) (λ x. PeerRetired x.0 x.1.0)
 
-abbrev pub ack_frequency : Form
+abbrev pub ack_frequency : EventForm
 ack_frequency = form_of (codes "ack-frequency") (a_var_int ∷ a_var_int ∷ a_var_int ∷ a_var_int ∷ [])
     (λ x. AckFrequencyIn (record {
       sequence = x.0;
@@ -161,96 +150,96 @@ ack_frequency = form_of (codes "ack-frequency") (a_var_int ∷ a_var_int ∷ a_v
       reordering_threshold = x.1.1.1.0;
     }))
 
-abbrev pub acks_sent : Form
+abbrev pub acks_sent : EventForm
 acks_sent = form_of (codes "acks-sent") (a_space ∷ []) (λ x. AcksSent x.0)
 
-abbrev pub ack_delay_timeout : Form
+abbrev pub ack_delay_timeout : EventForm
 ack_delay_timeout = form_of (codes "ack-delay-timeout") (a_space ∷ []) (λ x. AckDelayTimeout x.0)
 
-abbrev pub set_timer : Form
+abbrev pub set_timer : EventForm
 set_timer = form_of (codes "set-timer") (a_timer ∷ a_u64 ∷ []) (λ x. SetTimer x.0 x.1.0)
 
-abbrev pub stop_timer : Form
+abbrev pub stop_timer : EventForm
 stop_timer = form_of (codes "stop-timer") (a_timer ∷ []) (λ x. StopTimer x.0)
 
-abbrev pub next_timeout : Form
+abbrev pub next_timeout : EventForm
 next_timeout = form_of (codes "next-timeout") [] (λ x. NextTimeout)
 
-abbrev pub discard : Form
+abbrev pub discard : EventForm
 discard = form_of (codes "discard") (a_space ∷ []) (λ x. DiscardSpace x.0)
 
-abbrev pub in_flight : Form
+abbrev pub in_flight : EventForm
 in_flight = form_of (codes "in-flight") (a_path ∷ []) (λ x. InFlight x.0)
 
-abbrev pub sample : Form
+abbrev pub sample : EventForm
 sample = form_of (codes "sample") (a_span ∷ a_span ∷ []) (λ x. Sample x.0 x.1.0)
 
-abbrev pub datagram_in : Form
+abbrev pub datagram_in : EventForm
 datagram_in = form_of (codes "datagram-in") (a_path ∷ a_u64 ∷ []) (λ x. DatagramIn x.0 x.1.0)
 
-abbrev pub validated : Form
+abbrev pub validated : EventForm
 validated = form_of (codes "validated") (a_path ∷ []) (λ x. Validated x.0)
 
-abbrev pub transmit : Form
+abbrev pub transmit : EventForm
 transmit = form_of (codes "transmit") (a_u64 ∷ a_u16 ∷ a_flag ∷ [])
     (λ x. Transmit x.0 x.1.0 x.1.1.0)
 
-abbrev pub pacer_check : Form
+abbrev pub pacer_check : EventForm
 pacer_check = form_of (codes "pacer-check") (a_u64 ∷ a_u64 ∷ []) (λ x. PacerCheck x.0 x.1.0)
 
-abbrev pub congestion : Form
+abbrev pub congestion : EventForm
 congestion = form_of (codes "congestion") (a_u64 ∷ a_u64 ∷ a_flag ∷ a_u64 ∷ [])
     (λ x. Congestion x.0 x.1.0 x.1.1.0 x.1.1.1.0)
 
-abbrev pub end_acks : Form
+abbrev pub end_acks : EventForm
 end_acks = form_of (codes "end-acks") (a_u64 ∷ a_flag ∷ a_largest ∷ [])
     (λ x. EndAcks x.0 x.1.0 x.1.1.0)
 
-abbrev pub poll_mtu : Form
+abbrev pub poll_mtu : EventForm
 poll_mtu = form_of (codes "poll-mtu") (a_u64 ∷ []) (λ x. PollMtu x.0)
 
-abbrev pub peer_limit : Form
+abbrev pub peer_limit : EventForm
 peer_limit = form_of (codes "peer-limit") (a_u16 ∷ []) (λ x. PeerLimit x.0)
 
-abbrev pub mtu_found : Form
+abbrev pub mtu_found : EventForm
 mtu_found = form_of (codes "mtu-found") (a_u16 ∷ []) (λ x. MtuFound x.0)
 
-abbrev pub losses_done : Form
+abbrev pub losses_done : EventForm
 losses_done = form_of (codes "losses-done") (a_u64 ∷ []) (λ x. LossesDone x.0)
 
-abbrev pub ecn : Form
+abbrev pub ecn : EventForm
 ecn = form_of (codes "ecn") (a_space ∷ a_u64 ∷ a_u64 ∷ a_u64 ∷ a_u64 ∷ [])
     (λ x. Ecn x.0 x.1.0 (record { ect0 = x.1.1.0; ect1 = x.1.1.1.0; ce = x.1.1.1.1.0 }))
 
-abbrev pub check_ack : Form
+abbrev pub check_ack : EventForm
 check_ack = form_of (codes "check-ack") (a_space ∷ a_u64 ∷ a_u64 ∷ [])
     (λ x. CheckAck x.0 x.1.0 x.1.1.0)
 
-abbrev pub queue_probe : Form
+abbrev pub queue_probe : EventForm
 queue_probe = form_of (codes "queue-probe") (a_space ∷ a_flag ∷ []) (λ x. QueueProbe x.0 x.1.0 tt)
 
-abbrev pub take_pending : Form
+abbrev pub take_pending : EventForm
 take_pending = form_of (codes "take-pending") (a_space ∷ []) (λ x. TakePending x.0)
 
-abbrev pub new_path : Form
+abbrev pub new_path : EventForm
 new_path = record {
   name = codes "new-path";
   fields = a_u64 ∷ a_u16 ∷ a_flag ∷ [];
   tail = no_tail;
-  line = λ x. Path x.0 x.1.0 x.1.1.0;
+  make = λ x. Path x.0 x.1.0 x.1.1.0;
 }
 
-abbrev pub reset_path : Form
+abbrev pub reset_path : EventForm
 reset_path = form_of (codes "reset-path") (a_u64 ∷ []) (λ x. ResetPath x.0)
 
-abbrev pub drop_previous : Form
+abbrev pub drop_previous : EventForm
 drop_previous = form_of (codes "drop-previous") [] (λ x. DropPrevious)
 
-abbrev pub revert_path : Form
+abbrev pub revert_path : EventForm
 revert_path = form_of (codes "revert-path") [] (λ x. RevertPath)
 
 -- those that have no items
-abbrev pub forms_without_items : List Form
+abbrev pub forms_without_items : List EventForm
 forms_without_items = received ∷ acked ∷ lost
     ∷ new_id ∷ next_id ∷ initial_id ∷ issue_ids ∷ id_timeout ∷ peer_retired
     ∷ ack_frequency ∷ acks_sent ∷ ack_delay_timeout
@@ -261,13 +250,13 @@ forms_without_items = received ∷ acked ∷ lost
     ∷ ecn ∷ check_ack ∷ queue_probe ∷ take_pending ∷ new_path ∷ reset_path ∷ drop_previous
     ∷ revert_path ∷ []
 
-abbrev pub forms : List Form
+abbrev pub forms : List EventForm
 forms = send ∷ forms_without_items
 
 -- ---- how an event is encoded
 
 -- the form of an event's line and the values of its fields, with a number for what an event does not store
-abbrev pub saying : ℕ → ItemEvent → (form : Form) × FormValues form
+abbrev pub saying : ℕ → ItemEvent → (form : EventForm) × FormValues form
 saying unkept (Received space now number ack_eliciting) = (received, (space, (now, (number, (ack_eliciting, tt)))))
 saying unkept (Send space now size ack_eliciting largest_acked items none) =
     (send, (space, (now, (size, (ack_eliciting, (largest_acked, items))))))
@@ -318,7 +307,7 @@ saying unkept DropPrevious = (drop_previous, tt)
 saying unkept RevertPath = (revert_path, tt)
 
 -- a form with values, as words
-abbrev pub words_said : (form : Form) × FormValues form → List (List ℕ)
+abbrev pub words_said : (form : EventForm) × FormValues form → List (List ℕ)
 words_said said = said.0.name ∷ words_for said.0.tail said.0.fields said.1
 
 -- an event as words
@@ -334,7 +323,7 @@ set_timer-spelling = refl
 abbrev pub IsWithinTypes : ℕ → ItemEvent → Type 0
 IsWithinTypes unkept event =
     let said = saying unkept event in
-    AllFitFieldTypes said.0.tail said.0.fields said.1 × DenotesEvent (said.0.line said.1) event
+    AllFitFieldTypes said.0.tail said.0.fields said.1 × DenotesEvent (said.0.make said.1) event
 
 -- a line encodes an event
 pub record EncodesEvent (line : List ℕ) (event : ItemEvent) : Type 0 where

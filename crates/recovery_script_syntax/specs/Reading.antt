@@ -21,7 +21,8 @@ use Rattle.recovery_script_syntax.specs.Fields.{Field, Value, Values}
 use Rattle.recovery_script_syntax.specs.Fields.{Tail, TailValue, no_tail, an_item_tail}
 use Rattle.recovery_script_syntax.specs.Fields.{a_space, a_timer, a_path, a_flag, a_largest}
 use Rattle.recovery_script_syntax.specs.Fields.{a_u64, a_span, a_u16, a_var_int, a_byte, a_count}
-use Rattle.recovery_script_syntax.specs.Lines.{Form, forms, ItemEvent, DenotesEvent, EncodesEvent, TookMemory}
+use Rattle.recovery_script_syntax.specs.Forms.{Form}
+use Rattle.recovery_script_syntax.specs.Lines.{forms, ItemEvent, DenotesEvent, EncodesEvent, TookMemory}
 use Rattle.recovery_script_syntax.specs.Words.{words_of, most_ids}
 
 -- ---- a field
@@ -171,16 +172,16 @@ module _ {A : Type 0} (tail : Tail) where
   all_read (f ∷ fields) make words = fields_read (f ∷ fields) make words
 
 -- what is read after a form's name
-abbrev pub reading : Form → List (List ℕ) → Option (Line × List (List ℕ))
-reading form = all_read form.tail form.fields form.line
+abbrev pub reading : {A : Type 0} → Form A → List (List ℕ) → Option (A × List (List ℕ))
+reading form = all_read form.tail form.fields form.make
 
 -- the form of this name
-abbrev pub form_named : List Form → List ℕ → Option Form
+abbrev pub form_named : {A : Type 0} → List (Form A) → List ℕ → Option (Form A)
 form_named [] word = None
 form_named (form ∷ forms) word = if bytes_eq word form.name then Some form else form_named forms word
 
 -- what follows a name
-unfoldable pub line_behind : List Form → List ℕ → List (List ℕ) → Option (Line × List (List ℕ))
+unfoldable pub line_behind : {A : Type 0} → List (Form A) → List ℕ → List (List ℕ) → Option (A × List (List ℕ))
 line_behind forms name words = do
   form ← form_named forms name
   reading form words
@@ -248,8 +249,3 @@ abbrev pub PutsSpelled : {S : Type 0} → (S → ItemEvent → S → Type 0) →
 PutsSpelled takes line before (Some more) after = (event : ItemEvent) × EncodesEvent line event
     × takes before event after
 PutsSpelled takes line before None after = ((event : ItemEvent) → ¬ EncodesEvent line event) × (after ≡ before)
-
--- the event that a line encodes was appended, or there is none
-abbrev pub PushesSpelled : List ℕ → List ItemEvent → Bool → List ItemEvent → Type 0
-PushesSpelled line before true after = (event : ItemEvent) × EncodesEvent line event × (after ≡ before ++ event ∷ [])
-PushesSpelled line before false after = ((event : ItemEvent) → ¬ EncodesEvent line event) × (after ≡ before)

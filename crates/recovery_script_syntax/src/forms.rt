@@ -1,6 +1,6 @@
 //! The forms of lines: the fields after the name of each, and their meaning. Each event has one.
 ghost use Rattle.std.specs.Prelude.{◌≡◌, IfOk, OnErr, IsSomeAnd};
-ghost use Rattle.recovery_script_syntax.specs.Lines.{id_of, token_of, Form};
+ghost use Rattle.recovery_script_syntax.specs.Lines.{EventForm, id_of, token_of};
 ghost use Rattle.recovery_script_syntax.specs.Lines.{next_id, id_timeout, next_timeout, drop_previous, revert_path};
 ghost use Rattle.recovery_script_syntax.specs.Lines.{received, send, acked, lost};
 ghost use Rattle.recovery_script_syntax.specs.Lines.{new_id, initial_id, issue_ids, peer_retired};
@@ -56,7 +56,7 @@ pub(crate) fn token_of(byte: u8) -> ResetToken
 
 /// A form of a line without items: the fields after its name, and their meaning.
 pub(crate) trait LineForm {
-    ghost form: { Form };
+    ghost form: { EventForm };
 
     /// Parses words from the left. Returns `None` if they are no fields of this form.
     fn read(words: &mut Words<'_>) -> Option<Line>

@@ -1,9 +1,10 @@
 //! Parses a line of a script as an event, and puts it into a sink.
 ghost use Rattle.std.specs.Prelude.{◌≡◌, ◌+◌, ◌<◌, ◌≤◌, Some, IfOk, OnErr, vec_len, vec_capacity};
 ghost use Rattle.recovery_base.specs.Units.{u64_limit};
-ghost use Rattle.recovery_script_syntax.specs.Lines.{zero_ids, IsDocumentationAddress, HoldsList, forms_without_items, send};
+ghost use Rattle.recovery_script_syntax.specs.Lines.{zero_ids, IsDocumentationAddress, HoldsList, EncodesEvent, forms_without_items, send};
+ghost use Rattle.recovery_script_syntax.specs.Forms.{IsItemOf};
 ghost use Rattle.recovery_script_syntax.specs.Reading.{reading, line_behind, words_left};
-ghost use Rattle.recovery_script_syntax.specs.Reading.{ConstructsEvent, PushesToSink, PutsRead, PutsSpelled, PushesSpelled, all_of, whole};
+ghost use Rattle.recovery_script_syntax.specs.Reading.{ConstructsEvent, PushesToSink, PutsRead, PutsSpelled, all_of, whole};
 
 use crate::forms::{
     AckDelayTimeoutLine, AckFrequencyLine, AckedLine, AcksSentLine, CheckAckLine, CongestionLine,
@@ -213,15 +214,28 @@ pub fn put_event<S: Sink<Event<ItemQueue>>>(
     put_behind(alloc, name, &mut words, sink)
 }
 
-/// Appends the event of a line to the events, which have room for one more, as [`put_event`]. Returns whether the line
-/// is an event.
-pub fn push_event(line: &[u8], events: &mut Vec<Event<ItemQueue>>) -> Result<bool, NoMemory>
-    requires { vec_len events.old < vec_capacity events.old }
-    ensures found { IfOk result
-        (λ spells. PushesSpelled line.now events.old.items spells events.new.items) }
+/// The event of a line, if it has one.
+#[derive(Drop)]
+struct Found {
+    event: Option<Event<ItemQueue>>,
+}
+
+impl Sink<Event<ItemQueue>> for Found {
+    ghost takes = { λ old event new. new.event ≡ Some event };
+
+    fn put(&mut self, event: Event<ItemQueue>) -> bool {
+        self.event = Some(event);
+        false
+    }
+}
+
+/// Returns the event of a line, given without its line feed, or `None` if the line is no event. The only error is
+/// `NoMemory`.
+pub fn event_in(alloc: Global, line: &[u8]) -> Result<Option<Event<ItemQueue>>, NoMemory>
+    ensures found { IfOk result (IsItemOf EncodesEvent line.now) }
     ensures memory { OnErr result (HoldsList line.now) }
-    ensures kept { OnErr result (events.new.items ≡ events.old.items) }
 {
-    let alloc = *events.allocator();
-    Ok(put_event(alloc, line, events)?.is_some())
+    let mut found = Found { event: None };
+    put_event(alloc, line, &mut found)?;
+    Ok(found.event)
 }

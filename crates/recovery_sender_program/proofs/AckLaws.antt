@@ -7,7 +7,8 @@ use Rattle.recovery_script_syntax.specs.Fields.{words_for, AllFitFieldTypes, no_
 use Rattle.recovery_sender.specs.declared.calls.Frame.{Frame}
 use Rattle.recovery_sender_program.specs.CallLines.{SaysAck, ack_fields, ack_values}
 use Rattle.recovery_sender_program.specs.CallReading.{front_made, front_read, ranges_read}
-use Rattle.recovery_sender_program.proofs.CallLaws.{all_is, fields_behind, fields_front}
+use Rattle.recovery_script_syntax.proofs.FormLaws.{all_is, fields_front}
+use Rattle.recovery_sender_program.proofs.CallLaws.{fields_behind}
 use Rattle.recovery_sender_program.proofs.RangeLaws.{ranges_again, ranges_take}
 
 module _ (words : List (List ℕ)) where
@@ -16,7 +17,7 @@ module _ (words : List (List ℕ)) where
       → front_read words ≡ Some ((frame.space, frame.now, frame.ack.delay, frame.ack.app_limited), says.behind)
   front_again frame says =
       let is : words ≡ words_for no_tail ack_fields (ack_values frame) ++ says.behind = grind (arith, says.are) in
-      rw is (all_is ack_fields _ _ ∙ fields_behind ack_fields front_made (ack_values frame)
+      rw is (all_is no_tail ack_fields _ _ ∙ fields_behind ack_fields front_made (ack_values frame)
       says.behind says.fit)
 
   pub no_front : front_read words ≡ None → (frame : Frame) → ¬ SaysAck (codes "ack" ∷ words) frame
@@ -42,8 +43,8 @@ module _ (words : List (List ℕ)) where
         → ranges_read left ≡ Some (frame.ranges.items, frame.ack.ecn) → 0 < length frame.ranges.items
         → SaysAck (codes "ack" ∷ words) frame
     front_taken frame is read some =
-        let r = fields_front ack_fields front_made words (space, now, delay, app_limited)
-        left (sym (all_is ack_fields _ words) ∙ front) in
+        let r = fields_front no_tail ack_fields front_made words (space, now, delay, app_limited)
+        left (sym (all_is no_tail ack_fields _ words) ∙ front) in
         let values : r.0 ≡ ack_values frame = grind (arith, r.1.2, is) in
         record {
           behind = left;

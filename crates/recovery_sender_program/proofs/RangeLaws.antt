@@ -12,7 +12,8 @@ use Rattle.recovery_script_syntax.proofs.LineFieldLaws.{bind_some}
 use Rattle.recovery_script_syntax.proofs.NumberWordLaws.{number_again, number_takes}
 use Rattle.recovery_sender_program.specs.CallLines.{FitCounts, IsRange, SaysRanges, ecn_words, range_words}
 use Rattle.recovery_sender_program.specs.CallReading.{counts_read, ended, range_read, ranges_read}
-use Rattle.recovery_sender_program.proofs.CallLaws.{all_is, fields_behind, fields_front}
+use Rattle.recovery_script_syntax.proofs.FormLaws.{all_is, fields_front}
+use Rattle.recovery_sender_program.proofs.CallLaws.{fields_behind}
 
 -- ---- ECN counts
 
@@ -30,15 +31,15 @@ ended_all (Some (y, word ∷ words)) x e = absurd cc
 counts_take : (words : List (List ℕ)) (counts : EcnCounts) → counts_read words ≡ Some counts
     → (codes "ecn" ∷ words ≡ ecn_words (Some counts)) × FitCounts counts
 counts_take words counts e =
-    let r = fields_front counted made words counts [] (sym (all_is counted made words)
+    let r = fields_front no_tail counted made words counts [] (sym (all_is no_tail counted made words)
     ∙ ended_all (all_read no_tail counted made words) counts e) in
     grind (arith, r.1)
 
 counts_again : (counts : EcnCounts) → FitCounts counts
     → counts_read (decimal counts.ect0 ∷ decimal counts.ect1 ∷ decimal counts.ce ∷ []) ≡ Some counts
 counts_again counts h =
-    ap ended (all_is counted made _ ∙ fields_behind counted made (counts.ect0, (counts.ect1, (counts.ce, tt))) []
-    (h.0, (h.1, (h.2, tt))))
+    ap ended (all_is no_tail counted made _ ∙ fields_behind counted made (counts.ect0, (counts.ect1, (counts.ce, tt)))
+    [] (h.0, (h.1, (h.2, tt))))
 
 -- ---- ranges
 

@@ -30,13 +30,13 @@ settings_of factory remote choice =
 
 module _ {F Q R C K S M P : Type 0} {f : _} {c : _} {q : _} {m : _} {r : _} where
   -- the connection is established, or begins with its handshake
-  abbrev pub BeginsSo : Bool → Side → RecoveryConfig F → Stream → Sender F Q R C K S M P f c q m r → Type 0
-  BeginsSo true side config random first = IsEstablishedSender side config 0 random first
-  BeginsSo false side config random first = IsNewSender side config 0 random first
+  abbrev pub BeginsSo : Bool → Side → RecoveryConfig F → ℕ → Stream → Sender F Q R C K S M P f c q m r → Type 0
+  BeginsSo true side config start random first = IsEstablishedSender side config start random first
+  BeginsSo false side config start random first = IsNewSender side config start random first
 
   -- a sender as the choices of the arguments have it, at time 0, with a peer at an address with its port
   pub record BeginsAs (choice : Choice) (factory : F) (first : Sender F Q R C K S M P f c q m r) : Type 0 where
     pub remote : SocketAddr
     pub at : IsDocumentationAddress first_port remote
-    pub begins : BeginsSo choice.is_established choice.side (settings_of factory remote choice)
+    pub begins : BeginsSo choice.is_established choice.side (settings_of factory remote choice) 0
         (words_with choice.seed) first

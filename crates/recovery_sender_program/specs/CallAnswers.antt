@@ -1,7 +1,6 @@
 -- The line of each call's answer.
 use Rattle.std.specs.Prelude.{◌≡◌, ℕ, ◌==◌, ◌&&◌, not, Bool, true, false, List, [], ◌∷◌, ◌++◌, length}
-use Rattle.std.specs.Prelude.{Option, Some, None, is_none, if◌then◌else◌, Result, Ok, Err, String, string_bytes, decimal}
-use Rattle.std.specs.List.{flat_map}
+use Rattle.std.specs.Prelude.{Option, Some, None, is_none, if◌then◌else◌, Result, Ok, Err, decimal}
 use lib.Chars.{codes}
 use Rattle.recovery_script_syntax.specs.Answers.{answer_text, items_text, queue_text, refusal_text}
 use Rattle.recovery_script_syntax.specs.Words.{space_word}
@@ -18,10 +17,6 @@ use Rattle.recovery_sender.specs.declared.sender.packets.Transmission.{Transmiss
 use Rattle.recovery_sender.specs.declared.sender.packets.Transmission.TheVariants.{Transmitted, Blocked, Full, Delayed}
 use Rattle.recovery_sender.specs.declared.sender.probes.Timeout.{Timeout}
 use Rattle.recovery_sender.specs.declared.sender.probes.Timeout.TheVariants.{Nothing, Lost, Probe}
-
--- this text was appended
-abbrev pub ExtendsText : {Z : Type 0} → String Z → List ℕ → String Z → Type 0
-ExtendsText old text new = string_bytes new ≡ string_bytes old ++ text
 
 -- the replies to the calls of lines
 abbrev pub ItemReply : Type 0
@@ -118,6 +113,3 @@ call_text (Err Unsent) timer = codes "refused 21 Unsent"
 -- a line for each call
 abbrev pub said_line : CallRecord (List ℕ) → List ℕ
 said_line said = call_text said.reply said.timer ++ 10 ∷ []
-
-abbrev pub said_lines : List (CallRecord (List ℕ)) → List ℕ
-said_lines all = flat_map said_line all

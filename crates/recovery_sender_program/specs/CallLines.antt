@@ -5,6 +5,7 @@ use lib.Chars.{codes}
 use Rattle.recovery_base.specs.Units.{u64_limit}
 use Rattle.recovery_base.specs.declared.below.frames.EcnCounts.{EcnCounts}
 use Rattle.recovery_script_syntax.specs.Fields.{Field, Values, words_for, AllFitFieldTypes, no_tail}
+use Rattle.recovery_script_syntax.specs.Forms.{Form, SaysOneOf, plain_form}
 use Rattle.recovery_script_syntax.specs.Fields.{a_space, a_flag, a_u64, a_span, a_u16}
 use Rattle.recovery_script_syntax.specs.Lines.{ItemEvent, EncodesEvent}
 use Rattle.recovery_script_syntax.specs.Words.{longest_line, words_of}
@@ -21,46 +22,40 @@ ItemCall = Call (List ℕ) (Unit {0}) (Unit {0}) (List ℕ)
 
 -- ---- calls of a name and fields
 
--- a line's name, the fields after it, and the call of their values
-pub record CallForm : Type 0 where
-  pub name : List ℕ
-  pub fields : List Field
-  pub call : Values no_tail fields → ItemCall
-
-abbrev pub form_of : List ℕ → (fields : List Field) → (Values no_tail fields → ItemCall) → CallForm
-form_of name fields call = record { name = name; fields = fields; call = call }
+abbrev pub CallForm : Type 0
+CallForm = Form ItemCall
 
 abbrev pub transmit : CallForm
-transmit = form_of (codes "transmit") (a_space ∷ a_u64 ∷ a_u16 ∷ a_flag ∷ [])
+transmit = plain_form (codes "transmit") (a_space ∷ a_u64 ∷ a_u16 ∷ a_flag ∷ [])
     (λ x. Transmit (record { space = x.0; now = x.1.0; bytes = x.1.1.0; in_flight = x.1.1.1.0 }))
 
 abbrev pub timeout : CallForm
-timeout = form_of (codes "timeout") (a_u64 ∷ []) (λ x. Timeout x.0)
+timeout = plain_form (codes "timeout") (a_u64 ∷ []) (λ x. Timeout x.0)
 
 abbrev pub probe : CallForm
-probe = form_of (codes "probe") (a_space ∷ [])
+probe = plain_form (codes "probe") (a_space ∷ [])
     (λ x. Probe (record { space = x.0; immediate_ack = false; streams = tt }))
 
 abbrev pub datagram : CallForm
-datagram = form_of (codes "datagram") (a_u64 ∷ []) (λ x. Datagram x.0)
+datagram = plain_form (codes "datagram") (a_u64 ∷ []) (λ x. Datagram x.0)
 
 abbrev pub keys : CallForm
-keys = form_of (codes "keys") [] (λ x. HandshakeKeys)
+keys = plain_form (codes "keys") [] (λ x. HandshakeKeys)
 
 abbrev pub confirmed : CallForm
-confirmed = form_of (codes "confirmed") [] (λ x. HandshakeConfirmed)
+confirmed = plain_form (codes "confirmed") [] (λ x. HandshakeConfirmed)
 
 abbrev pub validated : CallForm
-validated = form_of (codes "validated") [] (λ x. AddressValidated)
+validated = plain_form (codes "validated") [] (λ x. AddressValidated)
 
 abbrev pub peer_delay : CallForm
-peer_delay = form_of (codes "peer-delay") (a_span ∷ []) (λ x. PeerDelay x.0)
+peer_delay = plain_form (codes "peer-delay") (a_span ∷ []) (λ x. PeerDelay x.0)
 
 abbrev pub discard : CallForm
-discard = form_of (codes "discard") (a_space ∷ a_u64 ∷ []) (λ x. Discard x.0 x.1.0)
+discard = plain_form (codes "discard") (a_space ∷ a_u64 ∷ []) (λ x. Discard x.0 x.1.0)
 
 abbrev pub abandon : CallForm
-abandon = form_of (codes "abandon") (a_space ∷ a_u64 ∷ []) (λ x. Abandon x.0 x.1.0)
+abandon = plain_form (codes "abandon") (a_space ∷ a_u64 ∷ []) (λ x. Abandon x.0 x.1.0)
 
 -- those about the connection and its spaces
 abbrev pub connection_forms : List CallForm
@@ -68,18 +63,6 @@ connection_forms = datagram ∷ keys ∷ confirmed ∷ validated ∷ peer_delay 
 
 abbrev pub call_forms : List CallForm
 call_forms = transmit ∷ timeout ∷ probe ∷ connection_forms
-
--- words are a form's name and the values of its fields, each within the type of its field, and the call is theirs
-pub record SaysForm (form : CallForm) (words : List (List ℕ)) (call : ItemCall) : Type 0 where
-  pub values : Values no_tail form.fields
-  pub are : words ≡ form.name ∷ words_for no_tail form.fields values
-  pub fit : AllFitFieldTypes no_tail form.fields values
-  pub is : call ≡ form.call values
-
--- this is so for one of several forms
-abbrev pub SaysOneOf : List CallForm → List (List ℕ) → ItemCall → Type 0
-SaysOneOf [] words call = ⊥
-SaysOneOf (form ∷ forms) words call = SaysForm form words call ⊎ SaysOneOf forms words call
 
 -- ---- ACK frames
 
@@ -132,12 +115,3 @@ IsPassed line call = (event : ItemEvent) × (call ≡ Event event) × IsPassedTh
 pub record EncodesCall (line : List ℕ) (call : ItemCall) : Type 0 where
   pub short : length line ≤ longest_line
   pub said : SaysOneOf call_forms (words_of line) call ⊎ (IsAck (words_of line) call ⊎ IsPassed line call)
-
--- a line is a call
-abbrev pub IsCallLine : List ℕ → Type 0
-IsCallLine line = (call : ItemCall) × EncodesCall line call
-
--- this is the call of a line, or it has none
-abbrev pub IsCallOf : List ℕ → Option ItemCall → Type 0
-IsCallOf line (Some call) = EncodesCall line call
-IsCallOf line None = (call : ItemCall) → ¬ EncodesCall line call

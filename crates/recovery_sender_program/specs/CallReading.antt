@@ -1,4 +1,4 @@
--- How the parser reads the words of a call. Only the grammar in CallLines.antt defines what a line means.
+-- How the parser reads a call. Only the grammar in CallLines.antt defines what a line means.
 use Rattle.std.specs.Prelude.{◌≡◌, ℕ, Bool, true, List, [], ◌∷◌, ◌++◌, Option, Some, None, option_map, if◌then◌else◌, bytes_eq}
 use lib.Chars.{codes}
 use Rattle.recovery_base.specs.Units.{u64_limit}
@@ -6,24 +6,14 @@ use Rattle.recovery_base.specs.declared.below.SpaceId.{SpaceId}
 use Rattle.recovery_base.specs.declared.below.frames.EcnCounts.{EcnCounts}
 use Rattle.recovery_script_syntax.specs.Fields.{Field, Values, no_tail, a_u64}
 use Rattle.recovery_script_syntax.specs.Reading.{◌>>=◌, all_read, field, number_of}
-use Rattle.recovery_sender_program.specs.CallLines.{CallForm, IsAck, IsPassed, ItemCall, SaysAck, ack_fields}
+use Rattle.recovery_sender_program.specs.CallLines.{IsAck, IsPassed, ItemCall, SaysAck, ack_fields}
 use Rattle.recovery_sender.specs.declared.calls.Frame.{Frame}
 
--- what is read, if no word is left
+-- what was read, if that was the whole line
 abbrev pub ended : {A : Type 0} → Option (A × List (List ℕ)) → Option A
 ended None = None
 ended (Some (read, [])) = Some read
 ended (Some (read, word ∷ words)) = None
-
--- what follows a form's name
-abbrev pub form_read : CallForm → List (List ℕ) → Option (ItemCall × List (List ℕ))
-form_read form words = all_read no_tail form.fields form.call words
-
--- what follows a name, by the form of that name
-unfoldable pub call_read : List CallForm → List ℕ → List (List ℕ) → Option (ItemCall × List (List ℕ))
-call_read [] name words = None
-call_read (form ∷ forms) name words =
-    if bytes_eq name form.name then form_read form words else call_read forms name words
 
 -- the fields of an ACK frame before its ranges
 abbrev pub front_made : Values no_tail ack_fields → SpaceId × ℕ × ℕ × Bool
@@ -32,7 +22,7 @@ front_made x = (x.0, x.1.0, x.1.1.0, x.1.1.1.0)
 abbrev pub front_read : List (List ℕ) → Option ((SpaceId × ℕ × ℕ × Bool) × List (List ℕ))
 front_read words = all_read no_tail ack_fields front_made words
 
--- ECN counts up to the end of the words
+-- ECN counts, which end the line
 abbrev pub counts_read : List (List ℕ) → Option EcnCounts
 counts_read words = ended (all_read no_tail (a_u64 ∷ a_u64 ∷ a_u64 ∷ [])
     (λ x. record { ect0 = x.0; ect1 = x.1.0; ce = x.1.1.0 }) words)
@@ -42,7 +32,7 @@ abbrev pub range_read : List ℕ → List (List ℕ) → Option ((ℕ × ℕ) ×
 range_read word words = number_of u64_limit word >>= λ first. (field (number_of u64_limit) words
     >>= λ last. Some ((first, last.0), last.1))
 
--- ranges up to the end of the words, or up to the ECN counts
+-- ranges up to the end of the line, or up to the ECN counts
 unfoldable pub ranges_read : List (List ℕ) → Option (List (ℕ × ℕ) × Option EcnCounts)
 ranges_read [] = Some ([], None)
 ranges_read (word ∷ []) = None
@@ -51,12 +41,12 @@ ranges_read (word ∷ next ∷ words) =
     else (number_of u64_limit word >>= λ first. (number_of u64_limit next >>= λ last.
     (ranges_read words >>= λ rest. Some ((first, last) ∷ rest.0, rest.1))))
 
--- these ranges were read, and these counts after them; or the words are no ranges
+-- these ranges were read, and these counts after them; or one of the words does not fit
 abbrev pub AreRangesRead : List (List ℕ) → List (ℕ × ℕ) → Option (Option EcnCounts) → Type 0
 AreRangesRead words ranges (Some ecn) = ranges_read words ≡ Some (ranges, ecn)
 AreRangesRead words ranges None = ranges_read words ≡ None
 
--- the call of an ACK frame was read behind its name; or the words are none
+-- after the name `ack` an ACK frame was read; or there is none
 abbrev pub IsAckRead : List (List ℕ) → Option ItemCall → Type 0
 IsAckRead words (Some call) = IsAck (codes "ack" ∷ words) call
 IsAckRead words None = (frame : Frame) → ¬ SaysAck (codes "ack" ∷ words) frame

@@ -2,6 +2,5 @@ pub mod Beginning
 pub mod CallAnswers
 pub mod CallLines
 pub mod CallReading
-pub mod Giving
 pub mod Playing
 pub mod Report

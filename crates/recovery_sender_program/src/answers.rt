@@ -1,38 +1,21 @@
 //! Writes one line for each call.
 ghost use Rattle.std.specs.Prelude.{◌≡◌, ◌++◌, OnOk, decimal};
+ghost use Rattle.recovery_replay.specs.Answering.{ExtendsText};
 ghost use Rattle.recovery_script_syntax.specs.Answers.{answer_text, items_text};
 ghost use Rattle.recovery_script_syntax.specs.Words.{space_word};
-ghost use Rattle.recovery_sender_program.specs.CallAnswers.{ExtendsText, acked_text, congestion_text, ecn_text, is_without, lost_behind, lost_numbers, losses_text, mark_text, marks_text, reply_text, retransmitted_text, said_line, timeout_text, timer_text, transmission_text};
+ghost use Rattle.recovery_sender_program.specs.CallAnswers.{acked_text, congestion_text, ecn_text, is_without, lost_behind, lost_numbers, losses_text, mark_text, marks_text, reply_text, retransmitted_text, said_line, timeout_text, timer_text, transmission_text};
 
-use itoa::Buffer;
 use recovery_base::below::SpaceId;
 use recovery_base::time::Instant;
 use recovery_events::event::{Answer, Refusal};
 use recovery_queue::items::ItemQueue;
+use recovery_replay::answering::{push_number, push_numbers};
 use recovery_script_syntax::answers::write_reply;
 use recovery_sender::{
     Acknowledged, CallRecord, CallReplyValue, EcnOutcome, Losses, Retransmitted, SenderError,
     Timeout, Transmission,
 };
 use std::alloc::{AllocError, Global};
-
-/// Appends a text and a number.
-fn push_number(text: &mut String, before: &str, number: u64) -> Result<(), AllocError>
-    ensures { OnOk result (ExtendsText text.old (before.now ++ decimal number) text.new) }
-{
-    text.push_str(before)?;
-    text.push_str(Buffer::new().format(number))
-}
-
-/// Appends numbers, with a space before each.
-fn push_numbers(text: &mut String, numbers: &[u64]) -> Result<(), AllocError>
-    ensures { OnOk result (ExtendsText text.old (items_text numbers.now) text.new) }
-{
-    for number in numbers {
-        push_number(text, " ", *number)?;
-    }
-    Ok(())
-}
 
 /// Returns whether an ACK frame's answer has no losses: no packet is lost, and allocation failed for none.
 fn is_without(losses: &Losses) -> bool

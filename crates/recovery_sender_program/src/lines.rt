@@ -1,9 +1,10 @@
 //! Parses a line as a call.
 ghost use Rattle.std.specs.Prelude.{◌≡◌, [], IfOk, MatchOption};
-ghost use Rattle.recovery_script_syntax.specs.Reading.{ReadsBy, words_left};
+ghost use Rattle.recovery_script_syntax.specs.Forms.{IsItemOf};
+ghost use Rattle.recovery_script_syntax.specs.Reading.{ReadsBy, line_behind, reading, words_left};
 ghost use Rattle.recovery_sender.specs.Calls.{IsPassedThrough};
-ghost use Rattle.recovery_sender_program.specs.CallLines.{IsCallLine, IsCallOf, abandon, call_forms, connection_forms, datagram, discard, peer_delay, probe, timeout, transmit};
-ghost use Rattle.recovery_sender_program.specs.CallReading.{AreRangesRead, IsAckRead, IsPassedRead, call_read, counts_read, form_read, front_read, range_read};
+ghost use Rattle.recovery_sender_program.specs.CallLines.{EncodesCall, abandon, call_forms, connection_forms, datagram, discard, peer_delay, probe, timeout, transmit};
+ghost use Rattle.recovery_sender_program.specs.CallReading.{AreRangesRead, IsAckRead, IsPassedRead, counts_read, front_read, range_read};
 
 use recovery_base::below::{EcnCounts, NoMemory, SpaceId};
 use recovery_base::time::{Duration, Instant};
@@ -11,7 +12,7 @@ use recovery_events::event::Event;
 use recovery_losses::Ack;
 use recovery_queue::items::ItemQueue;
 use recovery_replay::faults::{Grammar, line_named};
-use recovery_script_syntax::lines::{LINE_LIMIT, push_event};
+use recovery_script_syntax::lines::{LINE_LIMIT, event_in};
 use recovery_script_syntax::words::{Words, is_name, number_in};
 use recovery_sender::{Asking, Call, Datagram, Frame, passes};
 use std::alloc::Global;
@@ -59,7 +60,7 @@ const EXAMPLES: [&str; 37] = [
 
 /// Returns the call of a line, given without its line feed, if it is one.
 pub fn call_in(alloc: Global, line: &[u8]) -> Result<Option<Call<ItemQueue>>, NoMemory>
-    ensures { IfOk result (IsCallOf line.now) }
+    ensures { IfOk result (IsItemOf EncodesCall line.now) }
 {
     if line.len() > LINE_LIMIT {
         return Ok(None);
@@ -78,9 +79,9 @@ pub fn call_in(alloc: Global, line: &[u8]) -> Result<Option<Call<ItemQueue>>, No
 }
 
 /// Parses a call that does not allocate, by its name and the words after it.
-#[tactic(auto, unfolding(crate::specs::CallReading::call_read))]
+#[tactic(auto, unfolding(recovery_script_syntax::specs::Reading::line_behind))]
 fn short_call(name: &[u8], words: &mut Words<'_>) -> Option<Call<ItemQueue>>
-    ensures { ReadsBy (call_read call_forms name.now) words.old words.new result }
+    ensures { ReadsBy (line_behind call_forms name.now) words.old words.new result }
 {
     match name {
         name if is_name(name, "transmit") => transmit(words),
@@ -92,7 +93,7 @@ fn short_call(name: &[u8], words: &mut Words<'_>) -> Option<Call<ItemQueue>>
 
 #[tactic(auto, unfolding(recovery_script_syntax::specs::Reading::fields_read))]
 fn transmit(words: &mut Words<'_>) -> Option<Call<ItemQueue>>
-    ensures { ReadsBy (form_read transmit) words.old words.new result }
+    ensures { ReadsBy (reading transmit) words.old words.new result }
 {
     Some(Call::Transmit(Datagram {
         space: words.space()?,
@@ -104,14 +105,14 @@ fn transmit(words: &mut Words<'_>) -> Option<Call<ItemQueue>>
 
 #[tactic(auto, unfolding(recovery_script_syntax::specs::Reading::fields_read))]
 fn timeout(words: &mut Words<'_>) -> Option<Call<ItemQueue>>
-    ensures { ReadsBy (form_read timeout) words.old words.new result }
+    ensures { ReadsBy (reading timeout) words.old words.new result }
 {
     Some(Call::Timeout(words.moment()?))
 }
 
 #[tactic(auto, unfolding(recovery_script_syntax::specs::Reading::fields_read))]
 fn probe(words: &mut Words<'_>) -> Option<Call<ItemQueue>>
-    ensures { ReadsBy (form_read probe) words.old words.new result }
+    ensures { ReadsBy (reading probe) words.old words.new result }
 {
     Some(Call::Probe(Asking {
         space: words.space()?,
@@ -121,9 +122,9 @@ fn probe(words: &mut Words<'_>) -> Option<Call<ItemQueue>>
 }
 
 /// Parses calls about the connection and its spaces.
-#[tactic(auto, unfolding(crate::specs::CallReading::call_read))]
+#[tactic(auto, unfolding(recovery_script_syntax::specs::Reading::line_behind))]
 fn said(name: &[u8], words: &mut Words<'_>) -> Option<Call<ItemQueue>>
-    ensures { ReadsBy (call_read connection_forms name.now) words.old words.new result }
+    ensures { ReadsBy (line_behind connection_forms name.now) words.old words.new result }
 {
     match name {
         name if is_name(name, "datagram") => datagram(words),
@@ -139,28 +140,28 @@ fn said(name: &[u8], words: &mut Words<'_>) -> Option<Call<ItemQueue>>
 
 #[tactic(auto, unfolding(recovery_script_syntax::specs::Reading::fields_read))]
 fn datagram(words: &mut Words<'_>) -> Option<Call<ItemQueue>>
-    ensures { ReadsBy (form_read datagram) words.old words.new result }
+    ensures { ReadsBy (reading datagram) words.old words.new result }
 {
     Some(Call::Datagram(words.number()?))
 }
 
 #[tactic(auto, unfolding(recovery_script_syntax::specs::Reading::fields_read))]
 fn peer_delay(words: &mut Words<'_>) -> Option<Call<ItemQueue>>
-    ensures { ReadsBy (form_read peer_delay) words.old words.new result }
+    ensures { ReadsBy (reading peer_delay) words.old words.new result }
 {
     Some(Call::PeerDelay(words.span()?))
 }
 
 #[tactic(auto, unfolding(recovery_script_syntax::specs::Reading::fields_read))]
 fn discard(words: &mut Words<'_>) -> Option<Call<ItemQueue>>
-    ensures { ReadsBy (form_read discard) words.old words.new result }
+    ensures { ReadsBy (reading discard) words.old words.new result }
 {
     Some(Call::Discard(words.space()?, words.moment()?))
 }
 
 #[tactic(auto, unfolding(recovery_script_syntax::specs::Reading::fields_read))]
 fn abandon(words: &mut Words<'_>) -> Option<Call<ItemQueue>>
-    ensures { ReadsBy (form_read abandon) words.old words.new result }
+    ensures { ReadsBy (reading abandon) words.old words.new result }
 {
     Some(Call::Abandon(words.space()?, words.moment()?))
 }
@@ -177,15 +178,11 @@ fn passing(event: Event<ItemQueue>) -> Option<Call<ItemQueue>>
     }
 }
 
-/// Returns the event of a line, if it is one that passes through.
+/// Returns the call that passes the event of a line, if the line has an event that the sender passes.
 fn passed(alloc: Global, line: &[u8]) -> Result<Option<Call<ItemQueue>>, NoMemory>
     ensures { IfOk result (IsPassedRead line.now) }
 {
-    let mut events = Vec::with_capacity(alloc, 1)?;
-    if !push_event(line, &mut events)? {
-        return Ok(None);
-    }
-    match events.pop() {
+    match event_in(alloc, line)? {
         Some(event) => Ok(passing(event)),
         None => Ok(None),
     }
@@ -277,18 +274,22 @@ fn last_counts(words: &mut Words<'_>) -> Option<EcnCounts>
     if words.is_empty() { Some(counts) } else { None }
 }
 
-/// The lines that are calls, for the report of one that cannot be read.
+/// The lines that are calls.
+#[derive(Drop)]
 pub struct CallLines;
 
 impl Grammar for CallLines {
-    ghost is_line = { IsCallLine };
+    type Item = Call<ItemQueue>;
+
+    ghost encodes = { EncodesCall };
+
+    ghost are_short = { λ line call encoded. encoded.short };
 
     fn example_of(name: &[u8]) -> Option<&'static [u8]> {
         line_named(&EXAMPLES, name)
     }
 
-    fn has(alloc: Global, line: &[u8]) -> Result<bool, NoMemory> {
-        let call = call_in(alloc, line)?;
-        Ok(call.is_some())
+    fn item_in(alloc: Global, line: &[u8]) -> Result<Option<Call<ItemQueue>>, NoMemory> {
+        call_in(alloc, line)
     }
 }

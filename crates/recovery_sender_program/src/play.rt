@@ -1,14 +1,13 @@
 //! Reads calls and writes answers: each line is answered before the next is read.
 ghost use Rattle.std.specs.Prelude.{◌≡◌, IfOk, Some};
+ghost use Rattle.recovery_replay.specs.Playing.{streams_of};
 ghost use Rattle.recovery_sender_program.specs.Beginning.{BeginsAs, settings_of, with_thresholds};
 ghost use Rattle.recovery_sender_program.specs.CallAnswers.{said_line};
-ghost use Rattle.recovery_sender_program.specs.Giving.{GivesCalls, GivesLine, TellsLine, YieldsCalls};
-ghost use Rattle.recovery_replay.specs.Answering.{TakesAnswer, WritesUpTo};
-ghost use Rattle.recovery_sender_program.specs.Playing.{PlaysCalls, ending_of, channels_of};
+ghost use Rattle.recovery_sender_program.specs.Playing.{PlaysCalls};
 
 use crate::answers::write_said;
 use crate::choice::{Choice, Settings, Window};
-use crate::lines::{CallLines, call_in};
+use crate::lines::CallLines;
 use rand_core::SeedableRng;
 use rand_pcg::Pcg32;
 use recovery_base::below::NoMemory;
@@ -16,159 +15,33 @@ use recovery_base::time::Instant;
 use recovery_config::config::TransportConfig;
 use recovery_congestion::congestion::{ControllerFactory, NewRenoConfig};
 use recovery_cubic::CubicConfig;
-use recovery_events::feeding::{Sink, Source};
 use recovery_history::RecoveryConfig;
 use recovery_queue::items::ItemQueue;
-use recovery_replay::fault_reports::fault_line;
-use recovery_replay::faults::is_silent;
+use recovery_replay::answering::{AnswerLines, Answers, ending_of};
+use recovery_replay::giving::Lines;
 use recovery_replay::outcome::Outcome;
-use recovery_replay::reading::{Next, next_line};
 use recovery_replay::replay::{FIRST_PORT, config, skips};
-use recovery_replay::script::Ending;
-use recovery_replay::writing::deliver;
 use recovery_script_syntax::lines::peer_at;
-use recovery_sender::{Call, CallRecord, Sender, run_over};
-use std::alloc::Global;
+use recovery_sender::{CallRecord, Sender, run_over};
+use std::alloc::{AllocError, Global};
 use std::io::{Read, Write};
 use std::net::SocketAddr;
 
-/// The lines of an input as calls, up to the first that is no call.
+/// How the answers of calls are written.
 #[derive(Drop)]
-struct Lines<'a, R, E> {
-    alloc: Global,
-    input: &'a mut R,
-    errors: &'a mut E,
-    /// How the input ended; `None` if the sink asked for no more.
-    outcome: Option<Outcome>,
-}
+struct CallAnswers;
 
-impl<'a, R: Read, E: Write> Source<Call<ItemQueue>> for Lines<'a, R, E> {
-    ghost gives = { λ old calls new. (new.input.ghost_name ≡ old.input.ghost_name)
-        × (new.errors.ghost_name ≡ old.errors.ghost_name)
-        × GivesCalls (R.remaining old.input.now) (R.remaining new.input.now)
-        (E.contents old.errors.now) (E.contents new.errors.now) calls new.outcome };
+impl AnswerLines for CallAnswers {
+    type Answer = CallRecord<ItemQueue>;
 
-    fn feed<S: Sink<Call<ItemQueue>>>(&mut self, sink: &mut S) {
-        self.outcome = give_all(self.alloc, self.input, sink, self.errors);
-    }
-}
+    ghost line_of = { said_line };
 
-/// Reports the line of this number that is no call, as far as it can be written.
-fn report_line<E: Write>(alloc: Global, line: &[u8], number: u64, errors: &mut E) -> Outcome
-    ensures { TellsLine (E.contents errors.old) (E.contents errors.new) line.now number result }
-{
-    match fault_line::<CallLines>(alloc, line, number) {
-        Ok(text) => {
-            let _told = deliver(errors, text.as_bytes());
-            Outcome::Ended(Ending::BadLine(number))
-        }
-        Err(_) => Outcome::OutOfMemory,
-    }
-}
-
-/// Passes the call of a line to a sink, unless it is empty or a comment. Returns whether that asks for more, or how the
-/// input ends.
-fn give<S: Sink<Call<ItemQueue>>, E: Write>(
-    alloc: Global,
-    line: &[u8],
-    number: u64,
-    sink: &mut S,
-    errors: &mut E,
-) -> Result<bool, Outcome>
-    ensures { YieldsCalls S.takes (λ calls. GivesLine (E.contents errors.old)
-        (E.contents errors.new) line.now number calls result) sink.old sink.new }
-{
-    if is_silent(line) {
-        return Ok(true);
-    }
-    match call_in(alloc, line) {
-        Ok(Some(call)) => Ok(sink.put(call)),
-        Ok(None) => Err(report_line(alloc, line, number, errors)),
-        Err(_) => Err(Outcome::OutOfMemory),
-    }
-}
-
-/// Passes the calls of an input to a sink, while that asks for more. Returns how the input ended.
-fn give_all<R: Read, S: Sink<Call<ItemQueue>>, E: Write>(
-    alloc: Global,
-    input: &mut R,
-    sink: &mut S,
-    errors: &mut E,
-) -> Option<Outcome>
-    ensures { YieldsCalls S.takes (λ calls. GivesCalls (R.remaining input.old)
-        (R.remaining input.new) (E.contents errors.old) (E.contents errors.new) calls result)
-        sink.old sink.new }
-{
-    let mut line = Vec::new(alloc);
-    for number in 1..u64::MAX {
-        let next = match next_line(input, &mut line) {
-            Ok(Some(next)) => next,
-            Ok(None) => return Some(Outcome::Ended(Ending::Whole)),
-            Err(unread) => return Some(Outcome::from(unread)),
-        };
-        match give(alloc, &line, number, sink, errors) {
-            Ok(true) => {}
-            Ok(false) => return None,
-            Err(outcome) => return Some(outcome),
-        }
-        if let Next::Last = next {
-            return Some(Outcome::Ended(Ending::Whole));
-        }
-    }
-    Some(Outcome::Ended(Ending::ReadFailed))
-}
-
-/// The answers to calls, each written immediately.
-#[derive(Drop)]
-struct Answers<W> {
-    alloc: Global,
-    /// The last answer, whose memory is reused.
-    text: String,
-    output: W,
-    /// Why no more are written, if so.
-    broken: Option<Outcome>,
-}
-
-/// Writes the answer to a call. Returns why it could not be written, if so.
-fn write_answer<W: Write>(
-    alloc: Global,
-    text: &mut String,
-    output: &mut W,
-    said: CallRecord<ItemQueue>,
-) -> Option<Outcome>
-    ensures { WritesUpTo (W.contents output.old) (W.contents output.new) (said_line said) result }
-{
-    text.clear();
-    if write_said(alloc, text, said).is_err() {
-        return Some(Outcome::OutOfMemory);
-    }
-    match deliver(output, text.as_bytes()) {
-        Ok(()) => None,
-        Err(error) => Some(Outcome::of_failed_write(error)),
-    }
-}
-
-impl<W: Write> Sink<CallRecord<ItemQueue>> for Answers<W> {
-    ghost takes = { λ old said new.
-        TakesAnswer (W.contents old.output) (W.contents new.output) (said_line said) old.broken
-        new.broken };
-
-    fn put(&mut self, said: CallRecord<ItemQueue>) -> bool {
-        if self.broken.is_none() {
-            self.broken = write_answer(self.alloc, &mut self.text, &mut self.output, said);
-        }
-        self.broken.is_none()
-    }
-}
-
-/// Returns the outcome: why no more answers were written, if so, or else how the input ended. The answers ask for no
-/// more only after a failure.
-fn ending_of(broken: Option<Outcome>, ended: Option<Outcome>) -> Outcome
-    ensures { result ≡ ending_of broken ended }
-{
-    match (broken, ended) {
-        (Some(outcome), _) | (None, Some(outcome)) => outcome,
-        (None, None) => Outcome::WriteFailed,
+    fn push_line(
+        alloc: Global,
+        text: &mut String,
+        answer: CallRecord<ItemQueue>,
+    ) -> Result<(), AllocError> {
+        write_said(alloc, text, answer)
     }
 }
 
@@ -223,22 +96,18 @@ where
     R: Read,
     W: Write + Drop,
     E: Write,
-    ensures { PlaysCalls sender result.0 (channels_of
+    ensures { PlaysCalls sender result.0 (streams_of
         (R.remaining input.old) (R.remaining input.new) (W.contents output) (W.contents result.1)
         (E.contents errors.old) (E.contents errors.new)) result.2 }
 {
     let mut calls = Lines {
         alloc,
+        grammar: CallLines,
         input,
         errors,
         outcome: None,
     };
-    let answers = Answers {
-        alloc,
-        text: String::new(alloc),
-        output,
-        broken: None,
-    };
+    let answers = Answers::new(alloc, CallAnswers, output);
     let (sender, answers) = run_over(sender, &mut calls, answers);
     let outcome = ending_of(answers.broken, calls.outcome);
     (sender, answers.output, outcome)

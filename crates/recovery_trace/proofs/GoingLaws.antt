@@ -22,7 +22,8 @@ use Rattle.recovery_replay.specs.declared.script.Ending.TheVariants.{Whole, BadL
 use Rattle.recovery_trace.specs.declared.requests.Choice.{Choice}
 use Rattle.recovery_trace.specs.declared.turn.Turn.TheVariants.{Done, Bad, Over}
 use Rattle.recovery_replay.specs.Outcomes.{outcome_of}
-use Rattle.recovery_trace.specs.Trace.{ItemBeginning, Streams, origin, streams_of, TracesInput, TracesFrom}
+use Rattle.recovery_replay.specs.Playing.{Streams, streams_of}
+use Rattle.recovery_trace.specs.Trace.{ItemBeginning, origin, TracesInput, TracesFrom}
 use Rattle.recovery_trace.specs.Turns.{ItemParts, LineOutcome}
 use Rattle.recovery_trace.proofs.TraceLaws.{Made, SoFar, Taken, also_taken, bad_line, done_fine, ends_bad, ends_cut, ends_so, fine_more, nothing_taken, takes_last, takes_whole, taken_more, turn_bad, turn_done, turn_over}
 

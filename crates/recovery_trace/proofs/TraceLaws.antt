@@ -30,10 +30,12 @@ use Rattle.recovery_replay.specs.FaultReports.{ReportsFault}
 use Rattle.recovery_replay.specs.Faults.{IsSilent}
 use Rattle.recovery_replay.proofs.KeptLaws.{kept_silent, kept_speaks, kept_tells}
 use Rattle.recovery_replay.proofs.LinesLaws.{alone, lines_ended, one_line}
-use Rattle.recovery_trace.specs.Faults.{IsEventLine}
+use Rattle.recovery_script_syntax.specs.Forms.{IsLineOf}
 use Rattle.recovery_trace.specs.Turns.{AppliesLineEvent, IsUnreadableLine, IsFine, ItemParts, IsSkippedLine, LineOutcome, turn_text}
 use Rattle.recovery_trace.proofs.KeptLaws.{kept_passes}
-use Rattle.recovery_trace.specs.Trace.{WroteAll, AreParseableLines, EndsBad, LastUnreadable, WrotePrefix, ItemBeginning, ItemHistory, SpelledBy, Streams, origin, streams_of, ConsumesLines, TakesAlso, TraceGuarantees, TracesInput, time_of}
+use Rattle.recovery_replay.specs.Playing.{Streams, streams_of}
+use Rattle.recovery_replay.proofs.AnsweringLaws.{take_behind}
+use Rattle.recovery_trace.specs.Trace.{WroteAll, AreParseableLines, EndsBad, LastUnreadable, WrotePrefix, ItemBeginning, ItemHistory, SpelledBy, origin, ConsumesLines, TakesAlso, TraceGuarantees, TracesInput, time_of}
 
 -- ---- bytes and lines
 
@@ -47,13 +49,6 @@ pub record Taken (unread now : Option (List ℕ)) (lines : List (List ℕ)) : Ty
 
 pub nothing_taken : (unread now : Option (List ℕ)) → Consumes unread now [] → Taken unread now []
 nothing_taken unread now none = record { no_feeds = All-nil NoFeed; taken = none }
-
-take_behind : (front bytes : List ℕ) (n : ℕ) → take (length front + n) (front ++ bytes) ≡ front ++ take n bytes
-take_behind [] bytes n = ap (λ (k : ℕ). take k bytes) (let e : 0 + n ≡ n = omega arith in e)
-take_behind (byte ∷ front) bytes n =
-    ap (λ (k : ℕ). take k (byte ∷ (front ++ bytes)))
-    (let e : suc (length front) + n ≡ suc (length front + n) = omega arith in e)
-    ∙ ap (λ (l : List ℕ). byte ∷ l) (take_behind front bytes n)
 
 module _ (unread now left : Option (List ℕ)) (lines : List (List ℕ)) (t : Taken unread now lines) where
   pub taken_more : (line : List ℕ) → NoFeed line → Consumes now left (line ++ 10 ∷ [])
@@ -183,7 +178,7 @@ module _ {F K : Type 0} (beginning : ItemBeginning F K) (choice : Choice) where
     }
 
     pub made_bad : (text : List ℕ) → IsUnreadableLine line → new ≡ old → later ≡ earlier → Keeps now after
-        → ReportsFault IsEventLine line (length lines + 1) text → AppendsFront now_said said text
+        → ReportsFault (IsLineOf EncodesEvent) line (length lines + 1) text → AppendsFront now_said said text
         → Made before after unsaid said new later (line ∷ lines)
     made_bad text bad same still kept tells front = record {
       text = m.text;
@@ -257,8 +252,8 @@ module _ {F R C K : Type 0} {f : _} {c : _} {q : _} {m : _} {r : _} (config : Re
         made_bad (origin old config start random) choice before now after unsaid now_said said (state_of old)
         (state_of new) earlier later lines line made
         turn.4.0 (bad_line turn) turn.1 turn.2 turn.3
-        (subst (λ n. ReportsFault IsEventLine line n turn.4.0) is_number
-        (kept_tells IsEventLine line kept number turn.4.0 is_kept turn.4.1))
+        (subst (λ n. ReportsFault (IsLineOf EncodesEvent) line n turn.4.0) is_number
+        (kept_tells (IsLineOf EncodesEvent) line kept number turn.4.0 is_kept turn.4.1))
         turn.4.2
 
     module _ (unread left : Option (List ℕ)) (so_far : Outcome)

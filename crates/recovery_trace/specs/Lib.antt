@@ -1,4 +1,3 @@
-pub mod Faults
 pub mod EventTimes
 pub mod Qlog
 pub mod Report

@@ -29,9 +29,10 @@ use Rattle.recovery_trace.specs.declared.requests.Controllers.{Controllers}
 use Rattle.recovery_trace.specs.declared.requests.Controllers.TheVariants.{NewReno, Cubic, Fixed}
 use Rattle.recovery_trace.specs.EventTimes.{moment_of}
 use Rattle.recovery_replay.specs.Outcomes.{IsBroken}
+use Rattle.recovery_replay.specs.Playing.{Streams}
 use Rattle.recovery_trace.specs.Qlog.{header_text, note_of}
 use Rattle.recovery_replay.specs.FaultReports.{ReportsFault}
-use Rattle.recovery_trace.specs.Faults.{IsEventLine}
+use Rattle.recovery_script_syntax.specs.Forms.{IsLineOf}
 use Rattle.recovery_trace.specs.Turns.{IsUnreadableLine, IsFine, ItemParts, IsSkippedLine, turn_text}
 
 abbrev pub ItemHistory : Type 0
@@ -56,7 +57,7 @@ FaultReportsOf [] told = told ≡ []
 FaultReportsOf (line ∷ lines) told =
     (IsFine line × FaultReportsOf lines told)
     ⊎ (IsUnreadableLine line × ((front : List ℕ) × (text : List ℕ) × (n : ℕ) × FaultReportsOf lines front
-    × ReportsFault IsEventLine line (length lines + 1) text × (told ≡ front ++ take n text)))
+    × ReportsFault (IsLineOf EncodesEvent) line (length lines + 1) text × (told ≡ front ++ take n text)))
 
 -- the latest time of an event of a past, or 0
 abbrev pub time_of : ItemHistory → ℕ
@@ -83,19 +84,6 @@ module _ {F K : Type 0} (beginning : ItemBeginning F K) (shows : Shown) where
     pub is_told : FaultReportsOf lines told
 
 -- ---- how a trace ends
-
--- the rest of an input before and after, and the contents of an output and one for errors
-pub record Streams : Type 0 where
-  pub unread : Option (List ℕ)
-  pub left : Option (List ℕ)
-  pub before : Option (List ℕ)
-  pub after : Option (List ℕ)
-  pub unsaid : Option (List ℕ)
-  pub said : Option (List ℕ)
-
-abbrev pub streams_of : (unread left before after unsaid said : Option (List ℕ)) → Streams
-streams_of unread left before after unsaid said =
-    record { unread = unread; left = left; before = before; after = after; unsaid = unsaid; said = said }
 
 -- bytes were read that are these lines, the newest first; the last may lack its line feed
 abbrev pub ConsumesLines : Streams → List (List ℕ) → Type 0

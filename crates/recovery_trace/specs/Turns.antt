@@ -20,7 +20,7 @@ use Rattle.recovery_trace.specs.Qlog.{metrics_text, note_of, note_text}
 use Rattle.recovery_trace.specs.States.{state_text}
 use Rattle.recovery_replay.specs.FaultReports.{ReportsFault}
 use Rattle.recovery_replay.specs.Faults.{IsSilent}
-use Rattle.recovery_trace.specs.Faults.{IsEventLine}
+use Rattle.recovery_script_syntax.specs.Forms.{IsLineOf}
 
 -- ---- lines
 
@@ -83,7 +83,7 @@ module _ {F R C K : Type 0} {f : _} {c : _} {q : _} {m : _} {r : _} where
       × Keeps unsaid said
   LineOutcome shows line number old new earlier later before after unsaid said Bad =
       IsUnreadableLine line × (state_of new ≡ state_of old) × (later ≡ earlier) × Keeps before after
-      × ((text : List ℕ) × ReportsFault IsEventLine line number text × AppendsFront unsaid said text)
+      × ((text : List ℕ) × ReportsFault (IsLineOf EncodesEvent) line number text × AppendsFront unsaid said text)
   LineOutcome shows line number old new earlier later before after unsaid said (Over WriteFailed) =
       ((text : List ℕ) × AppliesLineEvent shows line old new earlier later text × AppendsFront before after text)
       × Keeps unsaid said

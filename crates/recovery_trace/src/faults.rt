@@ -1,9 +1,11 @@
 //! The lines of a trace, for the report of one that cannot be read.
-ghost use Rattle.recovery_trace.specs.Faults.{IsEventLine};
+ghost use Rattle.recovery_script_syntax.specs.Lines.{EncodesEvent};
 
 use recovery_base::below::NoMemory;
+use recovery_events::event::Event;
+use recovery_queue::items::ItemQueue;
 use recovery_replay::faults::{Grammar, line_named};
-use recovery_script_syntax::lines::push_event;
+use recovery_script_syntax::lines::event_in;
 use std::alloc::Global;
 
 /// A line for each event, with words that fit.
@@ -51,14 +53,17 @@ const EXAMPLES: [&str; 37] = [
 pub struct EventLines;
 
 impl Grammar for EventLines {
-    ghost is_line = { IsEventLine };
+    type Item = Event<ItemQueue>;
+
+    ghost encodes = { EncodesEvent };
+
+    ghost are_short = { λ line event encoded. encoded.short };
 
     fn example_of(name: &[u8]) -> Option<&'static [u8]> {
         line_named(&EXAMPLES, name)
     }
 
-    fn has(alloc: Global, line: &[u8]) -> Result<bool, NoMemory> {
-        let mut events = Vec::with_capacity(alloc, 1)?;
-        push_event(line, &mut events)
+    fn item_in(alloc: Global, line: &[u8]) -> Result<Option<Event<ItemQueue>>, NoMemory> {
+        event_in(alloc, line)
     }
 }

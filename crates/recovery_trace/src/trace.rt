@@ -1,5 +1,6 @@
 //! A trace: each line is read, its event applied and its answer written before the next line is read.
-ghost use Rattle.recovery_trace.specs.Trace.{streams_of, TracesAs, TracesBehind, TracesBy, TracesFrom, TracesOver};
+ghost use Rattle.recovery_replay.specs.Playing.{streams_of};
+ghost use Rattle.recovery_trace.specs.Trace.{TracesAs, TracesBehind, TracesBy, TracesFrom, TracesOver};
 
 use crate::qlog::HEADER;
 use crate::requests::{Choice, Controllers, Shown};

@@ -22,7 +22,7 @@ use recovery_replay::faults::is_silent;
 use recovery_replay::outcome::Outcome;
 use recovery_replay::writing::deliver;
 use recovery_script_syntax::answers::write_reply;
-use recovery_script_syntax::lines::push_event;
+use recovery_script_syntax::lines::event_in;
 use std::alloc::{AllocError, Global};
 use std::io::Write;
 
@@ -81,11 +81,7 @@ where
         (string_bytes text.new)) }
 {
     text.clear();
-    let mut events = Vec::with_capacity(alloc, 1)?;
-    if !push_event(line, &mut events)? {
-        return Ok(false);
-    }
-    let Some(event) = events.pop() else {
+    let Some(event) = event_in(alloc, line)? else {
         return Ok(false);
     };
     *time = (*time).max(moment_of(&event));

@@ -2,7 +2,8 @@ use Rattle.std.proofs.Common.{◌≡◌, ◌∷◌, IsSome, [], refl, sym, ◌�
 use Rattle.std.proofs.lemmas.Bool.Decides.{nat_tests}
 use Rattle.std.proofs.lemmas.Result.{IfOk-weaker}
 use Rattle.recovery_script_syntax.specs.Reading.{words_left}
-use Rattle.recovery_sender_program.proofs.CallLaws.{first_is, line_ack, line_found, line_passed, unread}
+use Rattle.recovery_script_syntax.proofs.OneOfLaws.{first_is, not_whole}
+use Rattle.recovery_sender_program.proofs.CallLaws.{line_ack, line_found, line_passed}
 use Rattle.recovery_sender_program.proofs.lines.call_in.Goals as goal
 use Rattle.recovery_sender_program.proofs.lines.call_in.Goals.{in_default-short_call-via-in-Some-short_call+else-is_empty, in_default-short_call-via-in_default-short_call}
 
@@ -29,5 +30,5 @@ returns-in_default-short_call c =
           λ some none. grind (arith, some, w.in_default-short_call.is)
     ] in
     IfOk-weaker c.passed.result _ _ (line_passed c.args.line.now c.in-Some.name.now _ is c.if-line-gt-LINE_LIMIT.false
-    c.if-is_name.ensures (unread c.args.line.now c.in-Some.name.now _ is c.if-line-gt-LINE_LIMIT.false
-    c.short_call.result (words_left c.short_call.new.words) c.short_call.ensures over)) c.passed.ensures
+    c.if-is_name.ensures (not_whole c.short_call.result (words_left c.short_call.new.words) _ c.short_call.ensures
+    over)) c.passed.ensures

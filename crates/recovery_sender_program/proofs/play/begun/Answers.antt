@@ -1,24 +1,22 @@
-use Rattle.std.proofs.Common.{ℕ, ap, ◌∙◌}
+use Rattle.std.proofs.Common.{ℕ, true, false, ap, ◌∙◌}
 use Rattle.std.proofs.lemmas.Result.{IfOk-weaker}
 use Rattle.rand_core.specs.Pcg32Seed.{pcg32_seed}
 use Rattle.rand_core.specs.Steps.{stream_of, steps_u32}
 use Rattle.rand_pcg.specs.Pcg.{pcg32, pcg32_of_seed}
 use Rattle.recovery_replay.proofs.SessionLaws.{words_of_seed}
-use Rattle.recovery_sender_program.proofs.BeginningLaws.{established, new}
+use Rattle.recovery_sender_program.proofs.BeginningLaws.{begins_as}
 use Rattle.recovery_sender_program.proofs.play.begun.Goals as goal
 
 pub returns-then-choice : goal.returns-then-choice
 returns-then-choice g c =
-    let random = c.seed_from_u64-rng.ensures ∙ ap (λ (n : ℕ). pcg32_of_seed (pcg32_seed 16 n)) c.unwrap_or.ensures in
-    let is_random = ap (stream_of (steps_u32 pcg32)) random ∙ words_of_seed c.args.choice.seed in
-    IfOk-weaker c.established.result _ _ (λ first is. established c.args.choice c.args.factory c.peer_at.result
-    c.peer_at.ensures _ _ _ c.settings_of-config.ensures c.from_nanos-start.ensures is_random first
-    c.if-choice.true is) c.established.ensures.begins
+    IfOk-weaker c.established.result _ _ (begins_as c.args.choice c.args.factory c.peer_at.result c.peer_at.ensures
+    _ _ _ c.settings_of-config.ensures c.from_nanos-start.ensures (ap (stream_of (steps_u32 pcg32))
+    (c.seed_from_u64-rng.ensures ∙ ap (λ (n : ℕ). pcg32_of_seed (pcg32_seed 16 n)) c.unwrap_or.ensures)
+    ∙ words_of_seed c.args.choice.seed) true c.if-choice.true) c.established.ensures.begins
 
 pub returns-else-choice : goal.returns-else-choice
 returns-else-choice g c =
-    let random = c.seed_from_u64-rng.ensures ∙ ap (λ (n : ℕ). pcg32_of_seed (pcg32_seed 16 n)) c.unwrap_or.ensures in
-    let is_random = ap (stream_of (steps_u32 pcg32)) random ∙ words_of_seed c.args.choice.seed in
-    IfOk-weaker c.new.result _ _ (λ first is. new c.args.choice c.args.factory c.peer_at.result
-    c.peer_at.ensures _ _ _ c.settings_of-config.ensures c.from_nanos-start.ensures is_random first
-    c.if-choice.false is) c.new.ensures.begins
+    IfOk-weaker c.new.result _ _ (begins_as c.args.choice c.args.factory c.peer_at.result c.peer_at.ensures
+    _ _ _ c.settings_of-config.ensures c.from_nanos-start.ensures (ap (stream_of (steps_u32 pcg32))
+    (c.seed_from_u64-rng.ensures ∙ ap (λ (n : ℕ). pcg32_of_seed (pcg32_seed 16 n)) c.unwrap_or.ensures)
+    ∙ words_of_seed c.args.choice.seed) false c.if-choice.false) c.new.ensures.begins

@@ -1,4 +1,4 @@
-use Rattle.recovery_trace.specs.Trace.{streams_of}
+use Rattle.recovery_replay.specs.Playing.{streams_of}
 use Rattle.recovery_trace.proofs.GoingLaws.{Going}
 use Rattle.recovery_trace.proofs.trace.run.Given as goal
 

@@ -10,17 +10,17 @@ returns-then-is_empty g c =
     let old = c.args.self.now in
     let given = c.end_line.ensures in
     record {
-      events = given.events;
+      items = given.items;
       taken = given.taken;
-      read = IfOk-weaker c.end_line.result _ _ (λ good. line_ended c.args.end.now _ old c.end_line.new.self given.events
-          good c.requires (nothing_kept old.line.items _ (grind (arith, nat_tests, old.line.ok.0)))) given.read;
+      given = IfOk-weaker c.end_line.result _ _ (λ good. line_ended c.args.end.now _ old c.end_line.new.self given.items
+          good c.requires (nothing_kept old.line.items _ (grind (arith, nat_tests, old.line.ok.0)))) given.given;
     }
 
 pub returns-then-not-branch : goal.returns-then-not-branch
 returns-then-not-branch g c = record {
-  events = [];
+  items = [];
   taken = refl;
-  read = bad_whatever_follows c.args.self.now c.keep.new.self c.args.end.now (10 ∷ []) []
+  given = bad_whatever_follows c.args.self.now c.keep.new.self c.args.end.now (10 ∷ []) []
       (rw (c.if-not-branch.true) at c.in_ok-keep.ensures);
 }
 
@@ -29,10 +29,10 @@ returns g c =
     let mid = c.keep.new.self in
     let given = c.end_kept.ensures in
     record {
-      events = given.events;
+      items = given.items;
       taken = given.taken;
-      read = IfOk-weaker c.end_kept.result _ _ (λ good ends. more_taken c.args.self.now mid c.end_kept.new.self
-          c.args.end.now (10 ∷ []) [] given.events good (rw (c.if-not-branch.false) at c.in_ok-keep.ensures)
-          (line_ended [] _ mid c.end_kept.new.self given.events good (All-nil _) (append-nil mid.line.items) ends))
-          given.read;
+      given = IfOk-weaker c.end_kept.result _ _ (λ good ends. more_taken c.args.self.now mid c.end_kept.new.self
+          c.args.end.now (10 ∷ []) [] given.items good (rw (c.if-not-branch.false) at c.in_ok-keep.ensures)
+          (line_ended [] _ mid c.end_kept.new.self given.items good (All-nil _) (append-nil mid.line.items) ends))
+          given.given;
     }

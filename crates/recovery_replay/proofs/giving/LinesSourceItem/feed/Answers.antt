@@ -1,9 +1,9 @@
 use Rattle.std.proofs.Common.{refl, rules}
-use Rattle.recovery_sender_program.proofs.play.LinesSourceCallItemQueue.feed.Goals as goal
+use Rattle.recovery_replay.proofs.giving.LinesSourceItem.feed.Goals as goal
 
 pub returns : goal.returns
 returns g c = record {
-  items = c.give_all-self.ensures.calls;
+  items = c.give_all-self.ensures.items;
   given = (search rules, search rules, c.give_all-self.ensures.given);
   taken = c.give_all-self.ensures.taken;
 }

@@ -1,6 +1,6 @@
 use Rattle.std.proofs.Common.{◌≡◌, ◌++◌, take, string_bytes}
 use Rattle.recovery_script_syntax.specs.Answers.{items_text}
-use Rattle.recovery_sender_program.proofs.answers.push_numbers.Given as goal
+use Rattle.recovery_replay.proofs.answering.push_numbers.Given as goal
 
 abbrev pub invariant-loop-number : goal.invariant-loop-number
 invariant-loop-number l =
