@@ -311,10 +311,12 @@ def short(program, moves):
         return f"{why}\n" + "\n".join(lines)
 
 
-BAD = {  # a schedule, or arguments beside it, and what is told
-    "hand client data\nsend client data 1200": "line 2 of the schedule cannot be read: send END SPACE TIME SIZE, as in send client data 0 1200",
-    "# a comment\n\nlose 3": "line 3 of the schedule cannot be read: a step is hand, send, arrive, expire, late, validated, keys, confirmed or discard",
-    "arrive 0": "line 1 of the schedule cannot be read: arrive POSITION TIME, as in arrive 0 10000000",
+BAD = {  # a schedule, and what is told of its line that cannot be read
+    "hand client data\nsend client data 1200": "line 2: words are missing behind the last one",
+    "# a comment\n\nlose 3": 'line 3: cannot read word 1, "lose"',
+    "arrive 0": "line 1: words are missing behind the last one",
+    "send client data 0 1200 9": 'line 1: cannot read word 6, "9"',
+    "expire nobody 0": 'line 1: cannot read word 2, "nobody"',
 }
 
 
@@ -325,7 +327,7 @@ def texts(program):
     expect("the example", tree.ran([program, f"schedule={script}"], text=True, input=""), (0, answers.read_text(), ""))
     for lines, told in BAD.items():
         status, _, errors = tree.ran([program, "schedule=/dev/stdin"], text=True, input=lines)
-        expect(repr(lines), (status, errors), (2, f"link: {told}\n"))
+        expect(repr(lines), (status, errors), (2, f"{told}\n"))
     status, _, errors = tree.ran([program, f"schedule={script}", "rate=1M"], text=True, input="")
     told = 'link: cannot read "rate=1M": with a schedule there is only controller=, as in controller=cubic\n'
     expect("another argument", (status, errors), (2, told))

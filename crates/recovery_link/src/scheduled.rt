@@ -13,7 +13,8 @@ use recovery_engine::controllers::ChosenConfig;
 use recovery_pair::{EndConfig, Pair};
 use recovery_replay::outcome::Outcome;
 use recovery_replay::replay::{FIRST_PORT, config, skips};
-use recovery_schedule::{ScheduleError, play_schedule};
+use recovery_replay::script;
+use recovery_schedule::play_schedule;
 use recovery_script_syntax::lines::peer_at;
 use std::fs;
 use std::io::BufReader;
@@ -43,23 +44,16 @@ fn end_config(settings: &Settings) -> EndConfig<ChosenConfig, Pcg32>
     }
 }
 
-/// Reports a line that is no step.
-fn report_line(rt: &HostRuntime, number: u64, form: &str) -> Ending {
-    let _told = eprint!(rt; "link: line {number} of the schedule cannot be read: {form}\n");
-    Ending::Refused
-}
-
-/// Returns how the program ends after a schedule.
-fn ending_of(rt: &HostRuntime, broken: Option<Outcome>, error: Option<ScheduleError>) -> Ending {
-    match (broken, error) {
-        (Some(Outcome::OutOfMemory), _) | (None, Some(ScheduleError::OutOfMemory)) => {
-            Ending::OutOfMemory
-        }
-        (Some(Outcome::Closed), _) => Ending::Closed,
-        (Some(_), _) => Ending::WriteFailed,
-        (None, Some(ScheduleError::BadLine { number, form })) => report_line(rt, number, form),
-        (None, Some(ScheduleError::ReadFailed)) => Ending::ReadFailed,
-        (None, None) => Ending::Ended,
+/// Returns how the program ends after a schedule. A line that cannot be read was reported already.
+fn ending_of(outcome: Outcome) -> Ending {
+    match outcome {
+        Outcome::Ended(script::Ending::Whole) => Ending::Ended,
+        Outcome::Ended(script::Ending::BadLine(_)) => Ending::Refused,
+        Outcome::Ended(script::Ending::ReadFailed) => Ending::ReadFailed,
+        Outcome::WriteFailed => Ending::WriteFailed,
+        Outcome::Closed => Ending::Closed,
+        Outcome::OutOfMemory => Ending::OutOfMemory,
+        Outcome::WrongArguments => Ending::WrongArguments,
     }
 }
 
@@ -75,8 +69,14 @@ pub fn played(rt: &HostRuntime, settings: &Settings, file: &str) -> Ending {
     let (client, server) = (end_config(settings), end_config(settings));
     match Pair::new(rt.alloc(), client, server, start) {
         Ok(pair) => {
-            let played = play_schedule(rt.alloc(), pair, &mut input, rt.stdout());
-            ending_of(rt, played.broken, played.error)
+            let (_output, outcome) = play_schedule(
+                rt.alloc(),
+                pair,
+                &mut input,
+                rt.stdout(),
+                &mut rt.stderr(),
+            );
+            ending_of(outcome)
         }
         Err(_) => Ending::OutOfMemory,
     }

@@ -1,2 +1,1 @@
-mod GivingLaws
-mod Taken
+mod StepLaws

@@ -1,4 +1,4 @@
-pub mod Giving
 pub mod Played
+pub mod StepReading
 pub mod Steps
 pub mod Texts

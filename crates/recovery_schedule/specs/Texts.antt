@@ -1,6 +1,6 @@
 -- The line of each answer.
 use Rattle.std.specs.Prelude.{ℕ, Bool, true, false, List, [], ◌∷◌, ◌++◌, ◌||◌, nat_lt, length, if◌then◌else◌}
-use Rattle.std.specs.Prelude.{◌≡◌, Option, Some, None, Result, Ok, Err, String, string_bytes, decimal}
+use Rattle.std.specs.Prelude.{◌≡◌, Option, Some, None, Result, Ok, Err, decimal}
 use lib.Chars.{codes}
 use Rattle.recovery_base.specs.declared.below.SpaceId.{SpaceId}
 use Rattle.recovery_events.specs.Refusals.{refusal_number, refusal_name}
@@ -22,10 +22,6 @@ use Rattle.recovery_pair.specs.declared.steps.Fate.{Fate}
 use Rattle.recovery_pair.specs.declared.steps.Fate.TheVariants.{Dropped, Duplicate, New}
 use Rattle.recovery_pair.specs.declared.steps.PairAnswer.{PairAnswer}
 use Rattle.recovery_pair.specs.declared.steps.PairAnswer.TheVariants.{Arrived, Done, Expired, Failed, Held, Nothing, Sent}
-
--- this was appended
-abbrev pub Extends : {Z : Type 0} → String Z → List ℕ → String Z → Type 0
-Extends old text new = string_bytes new ≡ string_bytes old ++ text
 
 abbrev pub space_text : SpaceId → List ℕ
 space_text space = space_word space

@@ -1,37 +1,21 @@
 //! Writes the answer to a step as a line.
 ghost use Rattle.std.specs.Prelude.{◌≡◌, ◌++◌, Ok, OnOk, decimal};
+ghost use Rattle.recovery_replay.specs.Answering.{ExtendsText};
 ghost use Rattle.recovery_script_syntax.specs.Answers.{items_text};
 ghost use lib.Chars.{codes};
-ghost use Rattle.recovery_schedule.specs.Texts.{Extends, acked_text, answer_line, answer_text, arrived_text, congestion_text, end_text, error_text, expired_text, fate_text, has_losses, held_text, limits_text, lost_text, space_text};
+ghost use Rattle.recovery_schedule.specs.Texts.{acked_text, answer_line, answer_text, arrived_text, congestion_text, end_text, error_text, expired_text, fate_text, has_losses, held_text, limits_text, lost_text, space_text};
 ghost use Rattle.recovery_pair.specs.declared.steps.AckOutcome.TheVariants.{Taken};
 
 use itoa::Buffer;
 use recovery_base::below::SpaceId;
 use recovery_base::time::Duration;
 use recovery_pair::{AckOutcome, End, Fate, PairAnswer};
+use recovery_replay::answering::{push_number, push_numbers};
 use recovery_sender::{Acknowledged, Losses, SenderError, Timeout, Transmission};
 use std::alloc::AllocError;
 
-fn push_number(text: &mut String, before: &str, number: u64) -> Result<(), AllocError>
-    ensures { OnOk result (Extends text.old (before.now ++ decimal number) text.new) }
-{
-    text.push_str(before)?;
-    text.push_str(Buffer::new().format(number))
-}
-
-/// Appends a name, and after it each number.
-fn push_numbers(text: &mut String, name: &str, numbers: &[u64]) -> Result<(), AllocError>
-    ensures { OnOk result (Extends text.old (name.now ++ items_text numbers.now) text.new) }
-{
-    text.push_str(name)?;
-    for number in numbers {
-        push_number(text, " ", *number)?;
-    }
-    Ok(())
-}
-
 fn push_error(text: &mut String, error: SenderError) -> Result<(), AllocError>
-    ensures { OnOk result (Extends text.old (error_text error) text.new) }
+    ensures { OnOk result (ExtendsText text.old (error_text error) text.new) }
 {
     match error {
         SenderError::Event(refusal) => {
@@ -63,7 +47,7 @@ fn end_word(end: End) -> &'static str
 }
 
 fn push_congestion(text: &mut String, losses: &Losses) -> Result<(), AllocError>
-    ensures { OnOk result (Extends text.old
+    ensures { OnOk result (ExtendsText text.old
         (congestion_text losses.now.is_persistent losses.now.congestion) text.new) }
 {
     match losses.congestion {
@@ -75,9 +59,9 @@ fn push_congestion(text: &mut String, losses: &Losses) -> Result<(), AllocError>
 
 /// Appends the numbers that are declared lost, and the congestion that this reports.
 fn push_lost(text: &mut String, losses: &Losses) -> Result<(), AllocError>
-    ensures { OnOk result (Extends text.old (lost_text losses.now) text.new) }
+    ensures { OnOk result (ExtendsText text.old (lost_text losses.now) text.new) }
 {
-    push_numbers(text, "", &losses.numbers)?;
+    push_numbers(text, &losses.numbers)?;
     push_congestion(text, losses)?;
     if losses.is_cut {
         return text.push_str(" cut");
@@ -93,9 +77,10 @@ fn is_lost(losses: &Losses) -> bool
 }
 
 fn push_acknowledged(text: &mut String, acknowledged: &Acknowledged) -> Result<(), AllocError>
-    ensures { OnOk result (Extends text.old (acked_text (Taken acknowledged.now)) text.new) }
+    ensures { OnOk result (ExtendsText text.old (acked_text (Taken acknowledged.now)) text.new) }
 {
-    push_numbers(text, " acked", &acknowledged.numbers)?;
+    text.push_str(" acked")?;
+    push_numbers(text, &acknowledged.numbers)?;
     if is_lost(&acknowledged.losses) {
         text.push_str(" lost")?;
         push_lost(text, &acknowledged.losses)?;
@@ -105,7 +90,7 @@ fn push_acknowledged(text: &mut String, acknowledged: &Acknowledged) -> Result<(
 
 /// Appends what became of the ACK frame of a packet.
 fn push_acked(text: &mut String, acked: &AckOutcome) -> Result<(), AllocError>
-    ensures { OnOk result (Extends text.old (acked_text acked.now) text.new) }
+    ensures { OnOk result (ExtendsText text.old (acked_text acked.now) text.new) }
 {
     match acked {
         AckOutcome::NoFrame => Ok(()),
@@ -118,11 +103,12 @@ fn push_acked(text: &mut String, acked: &AckOutcome) -> Result<(), AllocError>
 }
 
 fn push_fate(text: &mut String, fate: &Fate) -> Result<(), AllocError>
-    ensures { OnOk result (Extends text.old (fate_text fate.now) text.new) }
+    ensures { OnOk result (ExtendsText text.old (fate_text fate.now) text.new) }
 {
     match fate {
         Fate::New { items, acked } => {
-            push_numbers(text, " new", items)?;
+            text.push_str(" new")?;
+            push_numbers(text, items)?;
             push_acked(text, acked)
         }
         Fate::Duplicate => text.push_str(" duplicate"),
@@ -134,7 +120,7 @@ fn push_fate(text: &mut String, fate: &Fate) -> Result<(), AllocError>
 }
 
 fn push_held(text: &mut String, held: Transmission) -> Result<(), AllocError>
-    ensures { OnOk result (Extends text.old (held_text held) text.new) }
+    ensures { OnOk result (ExtendsText text.old (held_text held) text.new) }
 {
     match held {
         Transmission::Transmitted => text.push_str("transmitted"),
@@ -145,7 +131,7 @@ fn push_held(text: &mut String, held: Transmission) -> Result<(), AllocError>
 }
 
 fn push_timeout(text: &mut String, timeout: &Timeout) -> Result<(), AllocError>
-    ensures { OnOk result (Extends text.old (expired_text timeout.now) text.new) }
+    ensures { OnOk result (ExtendsText text.old (expired_text timeout.now) text.new) }
 {
     match timeout {
         Timeout::Nothing => text.push_str("nothing"),
@@ -163,7 +149,7 @@ fn push_timeout(text: &mut String, timeout: &Timeout) -> Result<(), AllocError>
 }
 
 fn push_arrived(text: &mut String, to: End, space: SpaceId, number: u64) -> Result<(), AllocError>
-    ensures { OnOk result (Extends text.old (arrived_text to space number) text.new) }
+    ensures { OnOk result (ExtendsText text.old (arrived_text to space number) text.new) }
 {
     text.push_str("arrived ")?;
     text.push_str(end_word(to))?;
@@ -182,7 +168,7 @@ fn push_limits(
     delay: Duration,
 ) -> Result<(), AllocError>
     ensures { OnOk result
-        (Extends text.old (limits_text eliciting window largest delay) text.new) }
+        (ExtendsText text.old (limits_text eliciting window largest delay) text.new) }
 {
     if !eliciting {
         text.push_str(" ack-only")?;
@@ -198,14 +184,14 @@ fn push_limits(
 
 /// Appends an ACK delay in nanoseconds.
 fn push_delay(text: &mut String, delay: Duration) -> Result<(), AllocError>
-    ensures { OnOk result (Extends text.old (codes " delay " ++ decimal delay) text.new) }
+    ensures { OnOk result (ExtendsText text.old (codes " delay " ++ decimal delay) text.new) }
 {
     text.push_str(" delay ")?;
     text.push_str(Buffer::new().format(delay.as_nanos()))
 }
 
 fn push_said(text: &mut String, answer: &PairAnswer) -> Result<(), AllocError>
-    ensures { OnOk result (Extends text.old (answer_text (Ok answer.now)) text.new) }
+    ensures { OnOk result (ExtendsText text.old (answer_text (Ok answer.now)) text.new) }
 {
     match answer {
         PairAnswer::Done => text.push_str("done"),
@@ -223,7 +209,7 @@ fn push_said(text: &mut String, answer: &PairAnswer) -> Result<(), AllocError>
             ack,
         } => {
             push_number(text, "sent ", *number)?;
-            push_numbers(text, "", items)?;
+            push_numbers(text, items)?;
             push_limits(text, *eliciting, *window, ack.largest, ack.delay)
         }
         PairAnswer::Arrived {
@@ -245,7 +231,7 @@ pub fn push_answer(
     text: &mut String,
     answer: &Result<PairAnswer, SenderError>,
 ) -> Result<(), AllocError>
-    ensures { OnOk result (Extends text.old (answer_line answer.now) text.new) }
+    ensures { OnOk result (ExtendsText text.old (answer_line answer.now) text.new) }
 {
     match answer {
         Ok(answer) => push_said(text, answer)?,

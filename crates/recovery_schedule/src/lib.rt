@@ -1,9 +1,9 @@
-//! A schedule: lines that say what happens at two endpoints and on the network between them, and the answer to each.
-//! Begin at `play.rt`.
+//! Plays a schedule: each line is a step of two endpoints or of the network between them, and gets one answer. Begin at
+//! `play.rt`.
 #![tactic(auto)]
 
 mod answers;
 mod lines;
 mod play;
 
-pub use play::{Played, ScheduleError, play_schedule};
+pub use play::play_schedule;

@@ -1,26 +1,33 @@
 //! Parses a line as a step of two endpoints.
-ghost use Rattle.std.specs.Prelude.{◌≡◌, ◌∷◌, ◌++◌, IfOk, IfSome};
-ghost use lib.Chars.{codes};
-ghost use Rattle.recovery_script_syntax.specs.Reading.{words_left};
-ghost use Rattle.recovery_script_syntax.specs.Words.{words_of};
-ghost use Rattle.recovery_pair.specs.declared.steps.End.{End};
-ghost use Rattle.recovery_schedule.specs.Steps.{local_words, step_words};
-ghost use Rattle.recovery_schedule.specs.Texts.{end_text};
+ghost use Rattle.std.specs.Prelude.{◌≡◌, IfOk};
+ghost use Rattle.recovery_script_syntax.specs.Forms.{IsItemOf};
+ghost use Rattle.recovery_script_syntax.specs.Reading.{ReadsBy, field, line_behind, reading, words_left};
+ghost use Rattle.recovery_schedule.specs.StepReading.{IsHandRead, end_of, step_read};
+ghost use Rattle.recovery_schedule.specs.Steps.{EncodesStep, arrive, discard, end_forms, expire, late, send};
 
 use recovery_base::below::NoMemory;
 use recovery_pair::{End, LocalStep, PairStep};
+use recovery_replay::faults::{Grammar, line_named};
 use recovery_script_syntax::lines::LINE_LIMIT;
 use recovery_script_syntax::words::{Words, is_name};
 use std::alloc::Global;
 
-/// Returns whether the line is empty or a comment.
-pub fn is_silent(line: &[u8]) -> bool {
-    line.is_empty() || line[0] == b'#'
-}
+/// A line for each step, with words that fit.
+const EXAMPLES: [&str; 9] = [
+    "hand client data",
+    "send client data 0 1200",
+    "arrive 0 0",
+    "expire client 0",
+    "late client 0",
+    "discard client initial 0",
+    "validated server",
+    "keys client",
+    "confirmed client",
+];
 
 /// Returns the step of a line, given without its line feed, if it is one.
 pub fn step_in(alloc: Global, line: &[u8]) -> Result<Option<PairStep>, NoMemory>
-    ensures { IfOk result (λ found. IfSome found (λ step. words_of line.now ≡ step_words step)) }
+    ensures { IfOk result (IsItemOf EncodesStep line.now) }
 {
     if line.len() > LINE_LIMIT {
         return Ok(None);
@@ -39,12 +46,13 @@ pub fn step_in(alloc: Global, line: &[u8]) -> Result<Option<PairStep>, NoMemory>
 }
 
 /// Parses the endpoint, space and items of `hand`.
-#[tactic(auto, using(crate::proofs::Taken::all_items, crate::proofs::Taken::space))]
 fn hand(alloc: Global, words: &mut Words<'_>) -> Result<Option<PairStep>, NoMemory>
-    ensures { IfOk result (λ found. IfSome found
-        (λ step. codes "hand" ∷ words_left words.old ≡ step_words step)) }
+    ensures { IfOk result (IsHandRead (words_left words.old)) }
 {
-    let (Some(end), Some(space)) = (end_in(words), words.space()) else {
+    let Some(end) = end_in(words) else {
+        return Ok(None);
+    };
+    let Some(space) = words.space() else {
         return Ok(None);
     };
     match words.items(alloc)? {
@@ -57,100 +65,104 @@ fn hand(alloc: Global, words: &mut Words<'_>) -> Result<Option<PairStep>, NoMemo
 }
 
 /// Parses a step that does not allocate, by its name and the words after it.
+#[tactic(auto, unfolding(crate::specs::StepReading::step_read))]
 fn short_step(name: &[u8], words: &mut Words<'_>) -> Option<PairStep>
-    ensures { IfSome result
-        (λ step. name.now ∷ words_left words.old ≡ step_words step ++ words_left words.new) }
+    ensures { ReadsBy (step_read name.now) words.old words.new result }
+{
+    if is_name(name, "arrive") {
+        return arrive(words);
+    }
+    let end = end_in(words)?;
+    end_step(name, end, words)
+}
+
+#[tactic(auto, unfolding(recovery_script_syntax::specs::Reading::fields_read))]
+fn arrive(words: &mut Words<'_>) -> Option<PairStep>
+    ensures { ReadsBy (reading arrive) words.old words.new result }
+{
+    let place = words.number()?;
+    Some(PairStep::Arrive {
+        at: place as usize,
+        now: words.moment()?,
+    })
+}
+
+/// Parses what an endpoint does, by the name of the step and the words after the endpoint.
+#[tactic(auto, unfolding(recovery_script_syntax::specs::Reading::line_behind))]
+fn end_step(name: &[u8], end: End, words: &mut Words<'_>) -> Option<PairStep>
+    ensures { ReadsBy (line_behind (end_forms end) name.now) words.old words.new result }
 {
     match name {
-        name if is_name(name, "send") => send(words),
-        name if is_name(name, "arrive") => arrive(words),
-        _ => {
-            let end = end_in(words)?;
-            let step = local(name, words)?;
-            Some(PairStep::Local { end, step })
-        }
+        name if is_name(name, "send") => send(end, words),
+        name if is_name(name, "expire") => expire(end, words),
+        name if is_name(name, "late") => late(end, words),
+        name if is_name(name, "discard") => discard(end, words),
+        name if is_name(name, "validated") => Some(PairStep::Local {
+            end,
+            step: LocalStep::AddressValidated,
+        }),
+        name if is_name(name, "keys") => Some(PairStep::Local {
+            end,
+            step: LocalStep::HandshakeKeys,
+        }),
+        name if is_name(name, "confirmed") => Some(PairStep::Local {
+            end,
+            step: LocalStep::HandshakeConfirmed,
+        }),
+        _ => None,
     }
 }
 
-#[tactic(auto, using(crate::proofs::Taken::number, crate::proofs::Taken::size, crate::proofs::Taken::space))]
-fn send(words: &mut Words<'_>) -> Option<PairStep>
-    ensures { IfSome result
-        (λ step. codes "send" ∷ words_left words.old ≡ step_words step ++ words_left words.new) }
+#[tactic(auto, unfolding(recovery_script_syntax::specs::Reading::fields_read))]
+fn send(end: End, words: &mut Words<'_>) -> Option<PairStep>
+    ensures { ReadsBy (reading (send end)) words.old words.new result }
 {
     Some(PairStep::Send {
-        end: end_in(words)?,
+        end,
         space: words.space()?,
         now: words.moment()?,
         size: words.short()?,
     })
 }
 
-#[tactic(auto, using(crate::proofs::Taken::number))]
-fn arrive(words: &mut Words<'_>) -> Option<PairStep>
-    ensures { IfSome result
-        (λ step. codes "arrive" ∷ words_left words.old ≡ step_words step ++ words_left words.new) }
+#[tactic(auto, unfolding(recovery_script_syntax::specs::Reading::fields_read))]
+fn expire(end: End, words: &mut Words<'_>) -> Option<PairStep>
+    ensures { ReadsBy (reading (expire end)) words.old words.new result }
 {
-    let place = words.number()?;
-    Some(PairStep::Arrive {
-        at: usize::try_from(place).ok()?,
-        now: words.moment()?,
+    let now = words.moment()?;
+    Some(PairStep::Local {
+        end,
+        step: LocalStep::Expire { now },
     })
 }
 
-/// Parses a local step by its name, after its endpoint.
-fn local(name: &[u8], words: &mut Words<'_>) -> Option<LocalStep>
-    ensures { IfSome result (λ step. (end : End)
-        → name.now ∷ end_text end ∷ words_left words.old
-        ≡ local_words end step ++ words_left words.new) }
+#[tactic(auto, unfolding(recovery_script_syntax::specs::Reading::fields_read))]
+fn late(end: End, words: &mut Words<'_>) -> Option<PairStep>
+    ensures { ReadsBy (reading (late end)) words.old words.new result }
 {
-    match name {
-        name if is_name(name, "expire") => expire(words),
-        name if is_name(name, "late") => late(words),
-        name if is_name(name, "discard") => discard(words),
-        name if is_name(name, "validated") => Some(LocalStep::AddressValidated),
-        name if is_name(name, "keys") => Some(LocalStep::HandshakeKeys),
-        name if is_name(name, "confirmed") => Some(LocalStep::HandshakeConfirmed),
-        _ => None,
-    }
-}
-
-#[tactic(auto, using(crate::proofs::Taken::number))]
-fn expire(words: &mut Words<'_>) -> Option<LocalStep>
-    ensures { IfSome result (λ step. (end : End)
-        → codes "expire" ∷ end_text end ∷ words_left words.old
-        ≡ local_words end step ++ words_left words.new) }
-{
-    Some(LocalStep::Expire {
-        now: words.moment()?,
+    let now = words.moment()?;
+    Some(PairStep::Local {
+        end,
+        step: LocalStep::Late { now },
     })
 }
 
-#[tactic(auto, using(crate::proofs::Taken::number))]
-fn late(words: &mut Words<'_>) -> Option<LocalStep>
-    ensures { IfSome result (λ step. (end : End)
-        → codes "late" ∷ end_text end ∷ words_left words.old
-        ≡ local_words end step ++ words_left words.new) }
+#[tactic(auto, unfolding(recovery_script_syntax::specs::Reading::fields_read))]
+fn discard(end: End, words: &mut Words<'_>) -> Option<PairStep>
+    ensures { ReadsBy (reading (discard end)) words.old words.new result }
 {
-    Some(LocalStep::Late {
-        now: words.moment()?,
+    let space = words.space()?;
+    let now = words.moment()?;
+    Some(PairStep::Local {
+        end,
+        step: LocalStep::Discard { space, now },
     })
 }
 
-#[tactic(auto, using(crate::proofs::Taken::number, crate::proofs::Taken::space))]
-fn discard(words: &mut Words<'_>) -> Option<LocalStep>
-    ensures { IfSome result (λ step. (end : End)
-        → codes "discard" ∷ end_text end ∷ words_left words.old
-        ≡ local_words end step ++ words_left words.new) }
-{
-    Some(LocalStep::Discard {
-        space: words.space()?,
-        now: words.moment()?,
-    })
-}
-
+/// Parses the next word as an endpoint: `client` or `server`.
+#[tactic(auto, unfolding(recovery_script_syntax::specs::Reading::field, crate::specs::StepReading::end_of))]
 fn end_in(words: &mut Words<'_>) -> Option<End>
-    ensures { IfSome result
-        (λ end. words_left words.old ≡ end_text end ∷ words_left words.new) }
+    ensures { ReadsBy (field end_of) words.old words.new result }
 {
     match words.next()? {
         word if is_name(word, "client") => Some(End::Client),
@@ -159,27 +171,22 @@ fn end_in(words: &mut Words<'_>) -> Option<End>
     }
 }
 
-/// Returns the form of a line that cannot be read, by its first word.
-pub fn form_of(line: &[u8]) -> &'static str {
-    let mut words = Words::new(line);
-    match words.next() {
-        Some(name) => form_named(name),
-        None => form_named(line),
-    }
-}
+/// The lines that are steps.
+#[derive(Drop)]
+pub struct StepLines;
 
-fn form_named(name: &[u8]) -> &'static str {
-    match name {
-        name if is_name(name, "hand") => "hand END SPACE ITEM.., as in hand client data 1 2",
-        name if is_name(name, "send") => "send END SPACE TIME SIZE, as in send client data 0 1200",
-        name if is_name(name, "arrive") => "arrive POSITION TIME, as in arrive 0 10000000",
-        name if is_name(name, "expire") => "expire END TIME, as in expire client 1024000000",
-        name if is_name(name, "late") => "late END TIME, as in late server 25000000",
-        name if is_name(name, "discard") =>
-            "discard END SPACE TIME, as in discard client initial 0",
-        name if is_name(name, "validated") => "validated END, as in validated server",
-        name if is_name(name, "keys") => "keys END, as in keys client",
-        name if is_name(name, "confirmed") => "confirmed END, as in confirmed client",
-        _ => "a step is hand, send, arrive, expire, late, validated, keys, confirmed or discard",
+impl Grammar for StepLines {
+    type Item = PairStep;
+
+    ghost encodes = { EncodesStep };
+
+    ghost are_short = { λ line step encoded. encoded.short };
+
+    fn example_of(name: &[u8]) -> Option<&'static [u8]> {
+        line_named(&EXAMPLES, name)
+    }
+
+    fn item_in(alloc: Global, line: &[u8]) -> Result<Option<PairStep>, NoMemory> {
+        step_in(alloc, line)
     }
 }
