@@ -237,8 +237,8 @@ fn probes(rt: HostRuntime) {
     assert!(rt; is_right, "a transfer with a probe");
 }
 
-/// What a test sees of a packet that was sent: whether it is ack-eliciting, the window for which it was checked, the
-/// largest number of its ACK frame, if it has one, and its ACK delay in milliseconds.
+/// What a test sees of a packet that was sent: whether it is ack-eliciting, and the window for which it was checked.
+/// Then the largest number of its ACK frame, if it has one, and its ACK delay in milliseconds.
 #[derive(Clone, Copy, PartialEq, Eq)]
 struct Checked {
     eliciting: bool,

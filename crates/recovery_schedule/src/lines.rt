@@ -64,7 +64,7 @@ fn hand(alloc: Global, words: &mut Words<'_>) -> Result<Option<PairStep>, NoMemo
     }
 }
 
-/// Parses a step that does not allocate, by its name and the words after it.
+/// Parses a step that does not allocate, by its name and the fields after it.
 #[tactic(auto, unfolding(crate::specs::StepReading::step_read))]
 fn short_step(name: &[u8], words: &mut Words<'_>) -> Option<PairStep>
     ensures { ReadsBy (step_read name.now) words.old words.new result }
@@ -87,7 +87,7 @@ fn arrive(words: &mut Words<'_>) -> Option<PairStep>
     })
 }
 
-/// Parses what an endpoint does, by the name of the step and the words after the endpoint.
+/// Parses what an endpoint does, by the name of the step and the fields after the endpoint.
 #[tactic(auto, unfolding(recovery_script_syntax::specs::Reading::line_behind))]
 fn end_step(name: &[u8], end: End, words: &mut Words<'_>) -> Option<PairStep>
     ensures { ReadsBy (line_behind (end_forms end) name.now) words.old words.new result }
