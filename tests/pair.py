@@ -2,7 +2,8 @@
 """Two endpoints over a hostile network: recovery-link plays random schedules, which drop, duplicate, reorder and delay, and all short ones. Each answer
 is compared with what the steps and answers before it allow (crates/recovery_pair/specs/Promises, and some that are not proved): honest endpoints
 reject no ACK of each other, what is acknowledged was delivered once with the items that were sent, no item is lost, none is sent more often than its
-losses and probes account for, the amplification limit and the window hold. Then the network delivers, and all items arrive.
+losses and probes account for, the amplification limit and the window hold, and no endpoint is stuck. Then the network delivers, and all items
+arrive.
 
     tests/pair.py                  with seeds 0 to 59
     tests/pair.py 1000 1099        with others
@@ -26,6 +27,7 @@ ENDS, SPACES = ("client", "server"), ("initial", "handshake", "data")
 ESTABLISHED = [f"{it} {end}" for end in ENDS for it in ("keys", "validated", "confirmed")]
 SIZE, SECOND = 1200, 10**9
 STEPS, ROUNDS = 300, 60
+FOREVER = 10**15  # nanoseconds: longer than any probe timeout
 
 tests = tree.Tests("pair")
 
@@ -59,7 +61,6 @@ class World:
     def __init__(self):
         self.wire, self.packets, self.heard, self.discarded = [], {}, {}, set()
         self.handed, self.delivered = collections.defaultdict(list), collections.defaultdict(list)
-        self.probes = collections.Counter()
         self.came, self.went, self.validated = collections.Counter(), collections.Counter(), set()
         self.due, self.windows, self.heard_at = collections.Counter(), collections.Counter(), {}
 
@@ -90,13 +91,16 @@ class World:
         end, space, now, size = words[0], words[1], int(words[2]), int(words[3])
         if said[0] == "nothing":
             return self.all_kept(end, space)
+        if "full" in said:
+            holds("the window is full only while bytes are in flight", self.flight(end))
         if said[0] != "sent":
             return
         key = end, space, int(said[1])
         holds("a number is sent once", key not in self.packets)
         packet = Packet(key, list(itertools.takewhile(str.isdigit, said[2:])), size, "ack-only" not in said)
+        packet.largest = int(said[said.index("largest") + 1]) if "largest" in said else None
         self.in_window(end, packet, said)
-        self.delayed(end, space, now, said)
+        self.delayed(packet, now, said)
         if packet.elicits:
             self.due[end, space] = max(0, self.due[end, space] - 1)
         self.packets[key] = packet
@@ -120,13 +124,13 @@ class World:
         flight = self.flight(end) + packet.size * packet.elicits
         holds("the flight exceeds the largest window by the probes at most", flight <= self.windows[end] + probes)
 
-    def delayed(self, end, space, now, said):
+    def delayed(self, packet, now, said):
         """The ACK delay is the time since the largest number was new (RFC 9000, 13.2.5)."""
+        end, space, _ = packet.key
         if (end, space) in self.heard_at:
             holds("the ACK delay", int(said[-1]) == max(0, now - self.heard_at[end, space][1]))
-        if "largest" in said:
-            number = int(said[said.index("largest") + 1])
-            holds("an ACK goes up to the largest number received", (end, space, number) in self.heard and number == self.heard_at[end, space][0])
+        received = self.heard_at.get((end, space), [None])[0]
+        holds("each packet has an ACK up to the largest number received", packet.largest == received)
 
     def of(self, end, space):
         return [it for it in self.packets.values() if it.key[:2] == (end, space)]
@@ -144,8 +148,9 @@ class World:
         carriers = [it for it in self.of(end, space) if item in it.items]
         lost = sum(it.outcome == "lost" for it in carriers)
         once = self.handed[end, space].count(item)
+        probes = sum(it.is_probe for it in carriers)
         if len(carriers) > once:
-            holds("an item is sent again only for a loss or a probe", len(carriers) <= once + lost + self.probes[end, space])
+            holds("an item is sent again only for a loss or a probe", len(carriers) <= once + lost + probes)
 
     # ---- receiving
 
@@ -173,12 +178,16 @@ class World:
         self.heard[key] = items
         self.heard_at[end, space] = max(self.heard_at.get((end, space), (-1, 0)), (key[2], now))
         self.delivered[packet.key[0], space] += items
+        holds("an ACK arrives if one was sent, and only then", bool(ack) == (packet.largest is not None))
         if ack:
             holds("no ACK is rejected", ack[0] == "acked")
-            self.acknowledged(end, space, ack)
+            self.acknowledged(end, space, ack, packet.largest)
 
-    def acknowledged(self, end, space, ack):
+    def acknowledged(self, end, space, ack, largest):
         named = ack.index("lost") if "lost" in ack else len(ack)
+        top = self.packets.get((end, space, largest))
+        in_flight = top and top.elicits and top.outcome is None
+        holds("the largest number of an ACK is newly acknowledged if it is in flight", not in_flight or str(largest) in ack[1:named])
         other = "server" if end == "client" else "client"
         for number in map(int, ack[1:named]):
             packet = self.packets.get((end, space, number))
@@ -195,7 +204,6 @@ class World:
 
     def expire(self, words, said):
         if said[0] == "probe":
-            self.probes[words[0], said[1]] += int(said[2])
             self.due[words[0], said[1]] = int(said[2])
         elif said[0] == "lost":
             self.lost(words[0], said[1], said[2:])
@@ -275,6 +283,13 @@ def deliver(run):
     holds("all items arrive at last", delivered(run))
 
 
+def waiting(run):
+    """Nothing arrives any more: an endpoint with bytes in flight has its timer set (RFC 9002, 6.2)."""
+    for end in ENDS:
+        if run.world.flight(end):
+            holds("an endpoint with bytes in flight is not stuck", run.step(f"expire {end} {run.now + FOREVER}").split()[0] in ("lost", "probe"))
+
+
 def played(program, seed):
     """A random run from this seed: which statement failed, if one did."""
     draw = random.Random(seed)
@@ -285,6 +300,7 @@ def played(program, seed):
         adversary(run, spaces, draw, STEPS)
         if spaces == ("data",):
             deliver(run)
+            waiting(run)
         return run.end(), None
     except Falsified as why:
         run.process.kill()

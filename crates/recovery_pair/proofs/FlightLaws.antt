@@ -1,5 +1,5 @@
 -- The bytes in flight by the events of a sender: what one event adds, and what it ends.
-use Rattle.std.proofs.Common.{◌≡◌, ℕ, ◌+◌, ◌≤◌, ◌⊎◌, inl, inr, ◌&&◌, ◌||◌, ◌==◌, Bool, true, false, List, [], ◌∷◌, ◌++◌, Option, None, Some, Ok, Err, refl, sym, ap, subst, ◌∙◌, arith, true≢false}
+use Rattle.std.proofs.Common.{◌≡◌, ℕ, ◌+◌, ◌≤◌, ◌⊎◌, inl, inr, ◌&&◌, ◌||◌, ◌==◌, Bool, true, false, List, [], ◌∷◌, ◌++◌, Option, None, Some, Ok, refl, sym, ap, subst, ◌∙◌, arith, true≢false}
 use Rattle.std.specs.Prelude.{if◌then◌else◌}
 use Rattle.std.proofs.lemmas.Bool.Decides.{nat_tests}
 use Rattle.recovery_base.specs.declared.below.SpaceId.{SpaceId}
@@ -30,11 +30,11 @@ use Rattle.recovery_pair.specs.Pasts.{added, flight_in}
 
 -- ---- tests
 
-or_right : (a b : Bool) → (a || b) ≡ false → b ≡ false
+pub or_right : (a b : Bool) → (a || b) ≡ false → b ≡ false
 or_right true b is = absurd (true≢false is)
 or_right false b is = is
 
-or_left : (a b : Bool) → (a || b) ≡ false → a ≡ false
+pub or_left : (a b : Bool) → (a || b) ≡ false → a ≡ false
 or_left true b is = absurd (true≢false is)
 or_left false b is = refl
 
@@ -312,16 +312,19 @@ module _ {Q S M P : Type 0} (generation : ℕ) where
       (if_less ((generations earlier).current == generation) _ _ (weight_most gone happened))
       (sum_most (λ space n. leaves happened space n || gone space n) earlier)
 
+pub flight_sum : {F K Q S M P : Type 0} (beginning : Beginning F K Q S M P) (past : History Q S M P)
+    (recovery : RecoveryState K P M) → ReachedBy beginning past recovery
+    → bytes_in_flight recovery ≡ sum_on (λ size eliciting. size) (generations past).current no_numbers past
+flight_sum {K = K} beginning past recovery came =
+    let counts = kept_after (RepliesAfter beginning) (Kept beginning) (keeps_counts beginning)
+    (none_counted beginning) past came.replies in
+    ap (λ (flight : InFlight). flight.bytes) came.state_after.in_flight.current
+    ∙ ap (λ (paths : PerPath (PathReplyInputs K)). (in_flight_on (inputs_after beginning past) paths.current).bytes)
+    came.state_after.paths ∙ sym (flight_now beginning past counts.1).0
+
 pub flight_counted : {F K Q S M P : Type 0} (beginning : Beginning F K Q S M P) (past : History Q S M P)
     (recovery : RecoveryState K P M) → ReachedBy beginning past recovery
     → flight_in no_numbers past ≤ bytes_in_flight recovery
-flight_counted {K = K} beginning past recovery came =
-    let counts = kept_after (RepliesAfter beginning) (Kept beginning) (keeps_counts beginning)
-    (none_counted beginning) past came.replies in
-    let same : bytes_in_flight recovery
-    ≡ sum_on (λ size eliciting. size) (generations past).current (λ space n. false) past =
-    ap (λ (flight : InFlight). flight.bytes) came.state_after.in_flight.current
-    ∙ ap (λ (paths : PerPath (PathReplyInputs K)). (in_flight_on (inputs_after beginning past) paths.current).bytes)
-    came.state_after.paths ∙ sym (flight_now beginning past counts.1).0 in
-    subst (λ (bytes : ℕ). flight_in no_numbers past ≤ bytes) (sym same)
+flight_counted beginning past recovery came =
+    subst (λ (bytes : ℕ). flight_in no_numbers past ≤ bytes) (sym (flight_sum beginning past recovery came))
     (sum_most (generations past).current no_numbers past)

@@ -23,14 +23,14 @@ use Rattle.recovery_history.specs.Promises.Fates.{HaveOneOutcome, is_given, more
 use Rattle.recovery_history.specs.Promises.Forgotten.{ForgetsOldestNonEliciting}
 use Rattle.recovery_history.specs.Promises.NewNumbers.{came_in, is_discarded, is_new, DetectsDuplicates, IsReceiveReply}
 use Rattle.recovery_history.specs.Promises.Increasing.{NumbersIncrease}
-use Rattle.recovery_history.specs.Promises.Paths.{generations}
+use Rattle.recovery_history.specs.Promises.Paths.{generations, paths_made}
 use Rattle.recovery_history.specs.Promises.Tracked.{goes_out, leaves}
 use Rattle.recovery_history.proofs.TrackedLaws.{one_space}
-use Rattle.recovery_sender.specs.Promises.Lost.{sent_at}
+use Rattle.recovery_sender.specs.Promises.Lost.{elicits_by, sent_at}
 use Rattle.recovery_sender.specs.declared.sender.SenderError.{SenderError}
 use Rattle.recovery_sender.specs.declared.sender.SenderError.TheVariants as refused
 use Rattle.recovery_pair.specs.Flights.{Numbers, counted_if, no_numbers}
-use Rattle.recovery_pair.specs.Pasts.{AcksBelow, Came, EndTurn, Endings, GoesOn, GoesOnQuietly, HearsNumber, IsHeardBy, KeepsLargest, SendsNumber, WasSentUnder, added, arriving, bytes_received, bytes_transmitted, discarding, ending, flight_in, hearing, is_of, largest_came, leaving, no_endings, packet_leaving, quiet, validating, with_carried, with_largest, with_number, with_time}
+use Rattle.recovery_pair.specs.Pasts.{AcksBelow, Came, EndTurn, Endings, GoesOn, GoesOnQuietly, HearsNumber, IsHeardBy, KeepsLargest, SendsNumber, WasSentUnder, added, arriving, bytes_received, bytes_transmitted, discarding, ending, flight_in, hearing, is_of, largest_came, leaving, no_endings, packet_leaving, quiet, silent_bytes, validating, with_carried, with_eliciting, with_largest, with_number, with_time}
 use Rattle.recovery_pair.proofs.FlightLaws.{flight_event, flight_less, gone_again, or_gone, sent_leaves, zero_more}
 use Rattle.recovery_pair.proofs.TopLaws.{acked_top, received_top}
 
@@ -177,6 +177,18 @@ module _ {Q S M P : Type 0} (past : History Q S M P) where
   time_before ends (PollMtu now) reply is space n = absurd is
   time_before ends event reply is space n = refl
 
+  elicits_before : (ends : Endings) (event : Event Q S M P) (reply : Reply Q) → IsEndingEvent ends event reply
+      → (space : SpaceId) (n : ℕ) → elicits_by space ((event, reply) ∷ past) n ≡ elicits_by space past n
+  elicits_before ends (Send there now size eliciting largest queue frames) (Ok answer) is space n = absurd is
+  elicits_before ends (Send there now size eliciting largest queue frames) (Err refusal) is space n = refl
+  elicits_before ends (PollMtu now) reply is space n = absurd is
+  elicits_before ends event reply is space n = refl
+
+  paths_before : (event : Event Q S M P) (reply : Reply Q) → IsQuietEvent event
+      → paths_made ((event, reply) ∷ past) ≡ paths_made past
+  paths_before (NewPath now remote is_fresh) reply calm = absurd calm
+  paths_before event reply calm = refl
+
   top_before : (ends : Endings) (event : Event Q S M P) (reply : Reply Q) → IsEndingEvent ends event reply
       → (space : SpaceId) → AcksBelow ends.acked space past ((event, reply) ∷ past) → KeepsLargest space past
       → KeepsLargest space ((event, reply) ∷ past)
@@ -186,6 +198,12 @@ module _ {Q S M P : Type 0} (past : History Q S M P) where
       (λ l here. below number l (rw (← one_space there space here) is.1))
   top_before ends (Acked there now number limited) (Err refusal) is space below keeps = keeps
   top_before ends event reply is space below keeps = keeps
+
+  silent_before : (ends : Endings) (event : Event Q S M P) (reply : Reply Q) → IsEndingEvent ends event reply
+      → silent_bytes ((event, reply) ∷ past) ≡ silent_bytes past
+  silent_before ends (Send there now size eliciting largest queue frames) (Ok answer) is = absurd is
+  silent_before ends (Send there now size eliciting largest queue frames) (Err refusal) is = refl
+  silent_before ends event reply is = refl
 
   -- a received number came before, or is this one
   received_here : (space : SpaceId) (n : ℕ) (there : SpaceId) (now m : ℕ) (eliciting arm : Bool)
@@ -230,10 +248,15 @@ module _ {Q S M P : Type 0} where
       → ((space : SpaceId) (n : ℕ) → largest_in space n after
       ≡ with_carried space n turn.carries (largest_in space n past))
       → ((space : SpaceId) (n : ℕ) → sent_at space after n ≡ with_time space n turn.sends (sent_at space past n))
+      → ((space : SpaceId) (n : ℕ) → elicits_by space after n
+      ≡ with_eliciting space n turn.sends (elicits_by space past n))
+      → paths_made after ≡ paths_made past
       → ((space : SpaceId) → AcksBelow turn.acks space past after → KeepsLargest space past
       → KeepsLargest space after)
+      → silent_bytes after ≡ silent_bytes past
       → GoesOn turn past after)
-  event_on turn past event reply came heard arrived left discarded validated largest flight carried timed topped =
+  event_on turn past event reply came heard arrived left discarded validated largest flight carried timed elicited paths
+      topped silent =
       record {
         given = λ space n. given_on past space n event reply;
         came = came;
@@ -246,7 +269,10 @@ module _ {Q S M P : Type 0} where
         flight = flight;
         carried = carried;
         timed = timed;
+        elicited = elicited;
+        paths = paths;
         topped = topped;
+        silent = at_most _ _ silent;
       }
 
   pub ending_none : (ends : Endings) (past : History Q S M P) → GoesOn (ending ends) past past
@@ -263,7 +289,10 @@ module _ {Q S M P : Type 0} where
         (λ space n is. or_gone (ends.gone space n) (gone space n) is));
     carried = λ space n. refl;
     timed = λ space n. refl;
+    elicited = λ space n. refl;
+    paths = refl;
     topped = λ space below keeps. keeps;
+    silent = at_most (silent_bytes past) (silent_bytes past) refl;
   }
 
   pub quiet_none : (past : History Q S M P) → GoesOnQuietly past past
@@ -286,7 +315,8 @@ module _ {Q S M P : Type 0} where
       (flight_event past event reply None ends.gone (generation_before past event reply calm) (λ gone. omega arith)
       (λ space n leave. inl (ends_by past ends event reply is space n leave)))
       (carried_before past ends event reply is) (time_before past ends event reply is)
-      (top_before past ends event reply is)
+      (elicits_before past ends event reply is) (paths_before past event reply calm)
+      (top_before past ends event reply is) (silent_before past ends event reply is)
 
 -- ---- one turn after another
 
@@ -320,6 +350,9 @@ pub record Follows (one two turn : EndTurn) : Type 0 where
       ≡ with_carried space n turn.carries before
   pub timed : (space : SpaceId) (n : ℕ) (before : ℕ)
       → with_time space n two.sends (with_time space n one.sends before) ≡ with_time space n turn.sends before
+  pub elicited : (space : SpaceId) (n : ℕ) (before : Bool)
+      → with_eliciting space n two.sends (with_eliciting space n one.sends before)
+      ≡ with_eliciting space n turn.sends before
 
 unheard_same : (space : SpaceId) (heard : Option (SpaceId × ℕ)) (now : ℕ) (before : Option (ℕ × ℕ)) → heard ≡ None
     → with_largest space heard now before ≡ before
@@ -391,9 +424,19 @@ module _ {Q S M P : Type 0} (one two turn : EndTurn) (past between after : Histo
         ∙ follows.carried space n (largest_in space n past);
     timed = λ space n. second.timed space n ∙ ap (with_time space n two.sends) (first.timed space n)
         ∙ follows.timed space n (sent_at space past n);
+    elicited = λ space n. second.elicited space n ∙ ap (with_eliciting space n two.sends) (first.elicited space n)
+        ∙ follows.elicited space n (elicits_by space past n);
+    paths = second.paths ∙ first.paths;
     topped = λ space below keeps. second.topped space (below_second space below)
         (first.topped space (below_first space below) keeps);
+    silent = (let a = first.silent in let b = second.silent in omega (arith, a, b));
   }
+
+-- what does not elicit does not count
+no_silent : (eliciting : Bool) (size before : ℕ) → counted_if eliciting size ≡ size
+    → (if eliciting then 0 else size) + before ≡ before
+no_silent true size before same = omega arith
+no_silent false size before same = omega (arith, same)
 
 -- a turn with other bytes, and by which other packets end
 abbrev amounting : EndTurn → ℕ → ℕ → Endings → EndTurn
@@ -434,6 +477,7 @@ module _ {Q S M P : Type 0} (arrives leaves : ℕ) (ends : Endings) (turn : EndT
         counted = λ gone. none_last (added turn.counts gone);
         carried = λ space n before. refl;
         timed = λ space n before. refl;
+        elicited = λ space n before. refl;
       })
     where
       heard : (space : SpaceId) (n : ℕ) → (quiet.heard ≡ Some (space, n)) ⊎ (turn.heard ≡ Some (space, n))
@@ -457,6 +501,7 @@ module _ {Q S M P : Type 0} (arrives leaves : ℕ) (ends : Endings) (turn : EndT
         counted = counted;
         carried = λ space n before. refl;
         timed = λ space n before. refl;
+        elicited = λ space n before. refl;
       })
     where
       heard : (space : SpaceId) (n : ℕ) → (turn.heard ≡ Some (space, n)) ⊎ (quiet.heard ≡ Some (space, n))
@@ -527,13 +572,13 @@ module _ {Q S M P : Type 0} where
       → NumbersIncrease past (Send space now size eliciting largest queue frames) (Ok (Sent n forgotten))
       → HaveOneOutcome ((Send space now size eliciting largest queue frames, Ok (Sent n forgotten)) ∷ past)
       → ForgetsOldestNonEliciting past (Send space now size eliciting largest queue frames) (Ok (Sent n forgotten))
-      → (same_space space space && n == n) ≡ true
-      → SendsNumber 0 (counted_if eliciting size) space n largest now past
+      → (same_space space space && n == n) ≡ true → counted_if eliciting size ≡ size
+      → SendsNumber 0 (counted_if eliciting size) eliciting space n largest now past
       ((Send space now size eliciting largest queue frames, Ok (Sent n forgotten)) ∷ past)
-  sends_event past space now size eliciting largest queue frames n forgotten increase once forgets goes =
+  sends_event past space now size eliciting largest queue frames n forgotten increase once forgets goes counted =
       let event : Event Q S M P = Send space now size eliciting largest queue frames in
       let reply : Reply Q = Ok (Sent n forgotten) in record {
-        goes = event_on (packet_leaving 0 (counted_if eliciting size) space n largest now) past event reply
+        goes = event_on (packet_leaving 0 (counted_if eliciting size) eliciting space n largest now) past event reply
             (λ there. refl) (λ there m was. inl was) (no_more (bytes_received past) (bytes_received past) refl)
             (no_less (bytes_transmitted past) (bytes_transmitted past) refl) (λ there. refl) (λ first. refl)
             (λ there. refl)
@@ -541,7 +586,8 @@ module _ {Q S M P : Type 0} where
             (λ gone. omega arith)
             (λ there m leave. inr (sent_leaves past space now size eliciting largest queue frames n forgotten once
             forgets there m leave)))
-            (λ there m. refl) (λ there m. refl) (λ there below keeps. keeps);
+            (λ there m. refl) (λ there m. refl) (λ there m. refl) refl
+            (λ there below keeps. keeps) (no_silent eliciting size (silent_bytes past) counted);
         unused = λ some. (let none = (increase space n goes).1 n (omega arith) in absurd (omega (arith, none, some)));
         above = λ k some. (elim (cases_lt k n) [
           | inl below ↦ below
@@ -551,23 +597,27 @@ module _ {Q S M P : Type 0} where
         small = (increase space n goes).0;
       }
 
-  module _ (size counted : ℕ) (space : SpaceId) (n : ℕ) (largest : Option ℕ) (now : ℕ)
+  module _ (size counted : ℕ) (eliciting : Bool) (space : SpaceId) (n : ℕ) (largest : Option ℕ) (now : ℕ)
       (past between after : History Q S M P)
     where
-      pub quiet_then_sends : GoesOnQuietly past between → SendsNumber size counted space n largest now between after
-          → SendsNumber size counted space n largest now past after
+      pub quiet_then_sends : GoesOnQuietly past between
+          → SendsNumber size counted eliciting space n largest now between after
+          → SendsNumber size counted eliciting space n largest now past after
       quiet_then_sends first second = record {
-        goes = quiet_then (packet_leaving size counted space n largest now) past between after first second.goes;
+        goes = quiet_then (packet_leaving size counted eliciting space n largest now) past between after first
+            second.goes;
         unused = λ some. second.unused (first.given space n some);
         above = λ k some. second.above k (first.given space k some);
         used = second.used;
         small = second.small;
       }
 
-      pub sends_then_quiet : SendsNumber size counted space n largest now past between → GoesOnQuietly between after
-          → SendsNumber size counted space n largest now past after
+      pub sends_then_quiet : SendsNumber size counted eliciting space n largest now past between
+          → GoesOnQuietly between after
+          → SendsNumber size counted eliciting space n largest now past after
       sends_then_quiet first second = record {
-        goes = then_quiet (packet_leaving size counted space n largest now) past between after first.goes second;
+        goes = then_quiet (packet_leaving size counted eliciting space n largest now) past between after first.goes
+            second;
         unused = first.unused;
         above = first.above;
         used = second.given space n first.used;
@@ -576,11 +626,11 @@ module _ {Q S M P : Type 0} where
 
       -- its datagram was transmitted before
       pub leaves_then_sends : GoesOn (leaving size) past between
-          → SendsNumber 0 counted space n largest now between after
-          → SendsNumber size counted space n largest now past after
+          → SendsNumber 0 counted eliciting space n largest now between after
+          → SendsNumber size counted eliciting space n largest now past after
       leaves_then_sends first second = record {
-        goes = plain_then 0 size no_endings (packet_leaving 0 counted space n largest now) 0 size no_endings past
-            between after (record {
+        goes = plain_then 0 size no_endings (packet_leaving 0 counted eliciting space n largest now) 0 size no_endings
+            past between after (record {
               arrives = none_first 0;
               leaves = none_first size;
               ended = λ there m gone is. is;
@@ -676,8 +726,8 @@ module _ {Q S M P : Type 0} (past : History Q S M P) (space : SpaceId) (now n : 
         (λ there. refl)
         (flight_event past (Received space now n eliciting) (Ok (New arm)) None no_numbers refl (λ gone. omega arith)
         (λ there m leave. no_acks leave))
-        (λ there m. refl) (λ there m. refl)
-        (λ there below keeps. received_top past there keeps space now n eliciting arm);
+        (λ there m. refl) (λ there m. refl) (λ there m. refl) refl
+        (λ there below keeps. received_top past there keeps space now n eliciting arm) refl;
     by = heard_new Q (is_discarded space past) (nat_le number_limit n) (is_new (came_in space past) n) arm detects;
   }
 
@@ -696,6 +746,10 @@ module _ {Q S M P : Type 0} (past : History Q S M P) (space : SpaceId) (now n : 
   not_dropped there (New arm) other keeps = absurd (other arm refl)
   not_dropped there answer other keeps = keeps
 
+  not_silent : (answer : Answer Q) → silent_bytes ((Received space now n eliciting, Ok answer) ∷ past)
+      ≡ silent_bytes past
+  not_silent answer = refl
+
   -- a packet that is not new
   pub known_event : (answer : Answer Q) → ((arm : Bool) → answer ≡ New arm → ⊥)
       → DetectsDuplicates past (Received space now n eliciting) (Ok answer)
@@ -708,7 +762,8 @@ module _ {Q S M P : Type 0} (past : History Q S M P) (space : SpaceId) (now n : 
         (λ there. not_largest there answer other)
         (flight_event past (Received space now n eliciting) (Ok answer) None no_numbers refl (λ gone. omega arith)
         (λ there m leave. no_acks leave))
-        (λ there m. refl) (λ there m. refl) (λ there below keeps. not_dropped there answer other keeps);
+        (λ there m. refl) (λ there m. refl) (λ there m. refl) refl
+        (λ there below keeps. not_dropped there answer other keeps) (not_silent answer);
     by = heard_again Q (is_discarded space past) (nat_le number_limit n) (is_new (came_in space past) n) answer other
         detects;
   }
@@ -725,7 +780,8 @@ module _ {Q S M P : Type 0} (past : History Q S M P) (space : SpaceId) (now n : 
         (λ there. refl)
         (flight_event past (Received space now n eliciting) (Err refusal) None no_numbers refl (λ gone. omega arith)
         (λ there m leave. no_acks leave))
-        (λ there m. refl) (λ there m. refl) (λ there below keeps. keeps);
+        (λ there m. refl) (λ there m. refl) (λ there m. refl) refl
+        (λ there below keeps. keeps) refl;
     by = heard_refused Q (is_discarded space past) (nat_le number_limit n) (is_new (came_in space past) n) refusal
         detects;
   }
@@ -742,7 +798,8 @@ module _ {Q S M P : Type 0} (past : History Q S M P) where
       (λ space. refl) (λ first. refl) (λ space. refl)
       (flight_event past (DatagramIn Current bytes) (Ok answer) None no_numbers refl (λ gone. omega arith)
       (λ there m leave. no_acks leave))
-      (λ space n. refl) (λ space n. refl) (λ space below keeps. keeps)
+      (λ space n. refl) (λ space n. refl) (λ space n. refl) refl
+      (λ space below keeps. keeps) refl
 
   pub leaves_event : (now bytes : ℕ) (checked : Bool)
       → GoesOn (leaving bytes) past ((Transmit now bytes checked, Ok Transmitted) ∷ past)
@@ -754,7 +811,8 @@ module _ {Q S M P : Type 0} (past : History Q S M P) where
       (λ space. refl) (λ first. refl) (λ space. refl)
       (flight_event past (Transmit now bytes checked) (Ok Transmitted) None no_numbers refl (λ gone. omega arith)
       (λ there m leave. no_acks leave))
-      (λ space n. refl) (λ space n. refl) (λ space below keeps. keeps)
+      (λ space n. refl) (λ space n. refl) (λ space n. refl) refl
+      (λ space below keeps. keeps) refl
 
   pub delayed_event : (now bytes until : ℕ) (checked : Bool)
       → GoesOnQuietly past ((Transmit now bytes checked, Ok (Delayed until)) ∷ past)
@@ -764,7 +822,8 @@ module _ {Q S M P : Type 0} (past : History Q S M P) where
       (λ space. refl) (λ first. refl) (λ space. refl)
       (flight_event past (Transmit now bytes checked) (Ok (Delayed until)) None no_numbers refl (λ gone. omega arith)
       (λ there m leave. no_acks leave))
-      (λ space n. refl) (λ space n. refl) (λ space below keeps. keeps)
+      (λ space n. refl) (λ space n. refl) (λ space n. refl) refl
+      (λ space below keeps. keeps) refl
 
   pub discards_event : (space : SpaceId) (answer : Answer Q)
       → GoesOn (discarding space) past ((DiscardSpace space, Ok answer) ∷ past)
@@ -774,7 +833,8 @@ module _ {Q S M P : Type 0} (past : History Q S M P) where
       (λ there. refl) (λ first. refl) (λ there. refl)
       (flight_event past (DiscardSpace space) (Ok answer) None (λ there n. same_space space there) refl
       (λ gone. omega arith) (λ there m leave. inl leave))
-      (λ there n. refl) (λ there n. refl) (λ there below keeps. keeps)
+      (λ there n. refl) (λ there n. refl) (λ there n. refl) refl
+      (λ there below keeps. keeps) refl
 
   pub validates_event : (answer : Answer Q) → GoesOn validating past ((Validated Current, Ok answer) ∷ past)
   validates_event answer = event_on validating past (Validated Current) (Ok answer) (λ space. refl)
@@ -783,4 +843,5 @@ module _ {Q S M P : Type 0} (past : History Q S M P) where
       (λ space. refl) (λ first. refl) (λ space. refl)
       (flight_event past (Validated Current) (Ok answer) None no_numbers refl (λ gone. omega arith)
       (λ there m leave. no_acks leave))
-      (λ space n. refl) (λ space n. refl) (λ space below keeps. keeps)
+      (λ space n. refl) (λ space n. refl) (λ space n. refl) refl
+      (λ space below keeps. keeps) refl

@@ -1,7 +1,7 @@
 -- An ACK frame of numbers that were all sent is not refused for what it says.
-use Rattle.std.proofs.Common.{◌≡◌, ℕ, ◌<◌, ◌≤◌, ◌⊎◌, zero, suc, inl, inr, true, false, true≢false, List, [], ◌∷◌, length, get_or, Option, None, Some, IfSome, Ok, Err, refl, sym, ap, subst, ◌∙◌, arith}
+use Rattle.std.proofs.Common.{◌≡◌, ℕ, ◌<◌, ◌≤◌, ◌⊎◌, zero, suc, inl, inr, true, false, true≢false, List, [], ◌∷◌, length, get_or, None, Ok, Err, refl, sym, ap, subst, ◌∙◌, arith}
 use Rattle.std.specs.Global.{Vec}
-use Rattle.std.specs.Prelude.{◌==◌}
+use Rattle.std.specs.Prelude.{◌==◌, is_some}
 use Rattle.std.proofs.lemmas.Bool.{cases_lt}
 use Rattle.std.proofs.lemmas.Bool.Decides.{nat_tests}
 use Rattle.rand_core.specs.Stream.{Stream}
@@ -10,7 +10,7 @@ use Rattle.recovery_events.specs.declared.event.Event.TheVariants.{CheckAck}
 use Rattle.recovery_events.specs.declared.event.Refusal.{Refusal}
 use Rattle.recovery_events.specs.declared.event.Refusal.TheVariants.{SpaceDiscarded, NumberTooLarge, BadRange, SkippedAcked, NoMemory}
 use Rattle.recovery_spaces.specs.Tracked.{SentState}
-use Rattle.recovery_losses.specs.Frames.{are_ranges, IsInAckRanges}
+use Rattle.recovery_losses.specs.Frames.{are_ranges, IsInAckRanges, largest_of}
 use Rattle.recovery_losses.proofs.FrameLaws.{are_fine, ranges_are}
 use Rattle.recovery_history.specs.declared.config.RecoveryConfig.{RecoveryConfig}
 use Rattle.recovery_history.specs.History.{Beginning, History, begins, queue_model}
@@ -30,8 +30,6 @@ use Rattle.recovery_history.proofs.TrackedLaws.{sent_in}
 use Rattle.quic_recovery.specs.State.{ReadOnlyTransition}
 use Rattle.recovery_sender.specs.Acking.{AckResult}
 use Rattle.recovery_sender.specs.Acks.{AckChecked, WereSent}
-use Rattle.recovery_sender.specs.Promises.Lost.{sent_at}
-use Rattle.recovery_sender.specs.Promises.RttSampled.{SamplesByPast}
 use Rattle.recovery_sender.specs.Senders.{state_in}
 use Rattle.recovery_sender.specs.declared.sender.Sender.{Sender}
 use Rattle.recovery_sender.specs.declared.sender.SenderError.{SenderError}
@@ -40,7 +38,7 @@ use Rattle.recovery_losses.specs.declared.frames.Ack.{Ack}
 use Rattle.recovery_sender.specs.declared.sender.acks.Acknowledged.{Acknowledged}
 use Rattle.recovery_pair.specs.declared.steps.AckOutcome.TheVariants.{Refused, Taken}
 use Rattle.recovery_pair.specs.Frames.{IsSoundFrame}
-use Rattle.recovery_pair.specs.Pasts.{AcksWithin, IsSince, NoAccusation, SampledBy, WasSentUnder, WereSentUnder}
+use Rattle.recovery_pair.specs.Pasts.{AcksWithin, NoAccusation, WasSentUnder, WereSentUnder}
 use Rattle.recovery_pair.specs.Promises.NeverAccused.{IsSpared}
 
 -- ---- numbers in ranges
@@ -152,21 +150,25 @@ module _ {F Q R C K S M P : Type 0} {f : _} {c : _} {q : _} {m : _} {r : _} (spa
       → AcksWithin ranges (Taken acked)
   taken_within acked is n there = ((is.newly.each n).0 there).0
 
-  pub taken_sampled : (acked : Acknowledged) → AckResult space now ranges ack old new (Ok acked)
-      → SampledBy space now ranges old (Taken acked)
-  taken_sampled acked is config start random past came =
-      by acked.rtt (is.sampled config start random past came)
-    where
-      by : (rtt : Option ℕ) → SamplesByPast space now ranges acked.numbers.items rtt past
-          → IfSome rtt (IsSince (sent_at space past) now ranges acked.numbers.items)
-      by None sampled = tt
-      by (Some rtt) sampled = record {
-        largest = sampled.largest;
-        is_largest = sampled.is_largest;
-        newly = sampled.newly;
-        since = sampled.since;
-      }
-
 pub some_items : {T : Type 0} (all : Vec T) → false ≡ (all.len == 0) → all.items ≡ [] → ⊥
 some_items {T} all some none = let length_is = all.ok.0 in
     let empty = ap (λ (items : List T). length items) none in grind (arith, nat_tests, some, length_is, empty)
+
+-- a packet has an ACK frame exactly if it has ranges
+pub no_largest : (all : Vec (ℕ × ℕ)) → true ≡ (all.len == 0) → largest_of all.items ≡ None
+no_largest all none = by all.items refl
+  where
+    by : (items : List (ℕ × ℕ)) → all.items ≡ items → largest_of items ≡ None
+    by [] is = refl
+    by (range ∷ ranges) is = let length_is = all.ok.0 in
+        let some = ap (λ (items : List (ℕ × ℕ)). length items) is in absurd (grind (
+          arith,
+          nat_tests,
+          none,
+          length_is,
+          some,
+        ))
+
+pub has_largest : (ranges : List (ℕ × ℕ)) → (ranges ≡ [] → ⊥) → is_some (largest_of ranges) ≡ true
+has_largest [] some = absurd (some refl)
+has_largest (range ∷ ranges) some = refl

@@ -1,5 +1,5 @@
 -- What the calls of a sender take from the retransmission queue, send and declare lost.
-use Rattle.std.proofs.Common.{◌≡◌, ℕ, ◌+◌, inl, inr, Bool, true, false, List, [], ◌∷◌, ◌++◌, Option, None, Some, Result, Ok, Err, refl, sym, ap, subst, ◌∙◌, arith}
+use Rattle.std.proofs.Common.{◌≡◌, ℕ, ◌+◌, ◌&&◌, ◌||◌, ◌⊎◌, inl, inr, Bool, true, false, List, [], ◌∷◌, ◌++◌, Option, None, Some, Result, Ok, Err, refl, sym, ap, subst, ◌∙◌, arith}
 use Rattle.std.specs.Prelude.{IfOk, MatchResult, OnErr, min, option_to_list, if◌then◌else◌}
 use Rattle.std.specs.Option.{ForSome}
 use Rattle.rand_core.specs.Stream.{Stream}
@@ -48,7 +48,7 @@ use Rattle.recovery_sender.specs.declared.sender.probes.Timeout.{Timeout}
 use Rattle.recovery_sender.specs.declared.sender.probes.Timeout.TheVariants.{Nothing, Lost, Probe}
 use Rattle.recovery_sender.proofs.ExtendedLaws.{loss_time_reached, marks_reached}
 use Rattle.recovery_pair.specs.declared.steps.AckOutcome.TheVariants.{Taken}
-use Rattle.recovery_pair.specs.Carried.{Carries, CarriesNone, CarriesOn, ContentsTurn, all_sent_with, lost_by_ack, lost_by_timeout, lost_there, losing, none_lost, sending_with, sent_with, taken_there, taking}
+use Rattle.recovery_pair.specs.Carried.{Carries, CarriesNone, CarriesOn, ContentsTurn, all_sent_with, amount_of, amount_with, is_probing, lost_by_ack, lost_by_timeout, lost_there, losing, none_lost, probed_there, sending_with, sent_with, taken_if, taken_there, taking}
 use Rattle.recovery_pair.specs.Logs.{part}
 use Rattle.recovery_pair.specs.Promises.Resends.{lost_of}
 use Rattle.recovery_pair.proofs.QuietLaws.{joined}
@@ -57,6 +57,25 @@ use Rattle.recovery_pair.proofs.QuietLaws.{joined}
 
 zero_plus : (a : ℕ) → a ≡ 0 + a
 zero_plus a = omega arith
+
+-- the retransmission queue is taken, though no probe was queued
+calm_then : (b probing : Bool) → probing ≡ false → (if b then false else probing) ≡ false
+calm_then true probing calm = refl
+calm_then false probing calm = calm
+
+none_probed : (b probing : Bool) (amount more : ℕ) → probing ≡ false → part (b && probing) amount + more ≡ 0 + more
+none_probed true true amount more calm = absurd cc
+none_probed true false amount more calm = refl
+none_probed false probing amount more calm = refl
+
+-- or as one was
+calm_again : (b probing : Bool) → probing ≡ false → (if b then false else b || probing) ≡ false
+calm_again true probing calm = refl
+calm_again false probing calm = calm
+
+all_probed : (b probing : Bool) (amount more : ℕ) → part (b && (b || probing)) amount + more ≡ part b amount + more
+all_probed true probing amount more = refl
+all_probed false probing amount more = refl
 
 module _ {Q S M P : Type 0} (contents : Q → P) where
   all_same : (measure : P → ℕ) (space : SpaceId) (numbers : List ℕ) (past after : History Q S M P)
@@ -80,57 +99,114 @@ module _ {Q S M P : Type 0} (contents : Q → P) where
     taken = λ measure space. omega arith;
     sent = λ measure space n. omega arith;
     lost = λ measure space. omega arith;
+    probed = λ measure space calm. (calm, omega arith);
+  }
+
+  -- a turn and a later one are one: what they take, send and lose adds up
+  pub record Joins (past : History Q S M P) (one two both : ContentsTurn P) : Type 0 where
+    pub takes : (measure : P → ℕ) (space : SpaceId) → amount_of measure space both.takes
+        ≡ amount_of measure space one.takes + amount_of measure space two.takes
+    pub probes : (measure : P → ℕ) (space : SpaceId) → amount_of measure space both.probes
+        ≡ amount_of measure space one.probes + amount_of measure space two.probes
+    pub sends : (measure : P → ℕ) (space : SpaceId) (n : ℕ) → amount_with measure space n both.sends
+        ≡ amount_with measure space n one.sends + amount_with measure space n two.sends
+    pub loses : (measure : P → ℕ) (space : SpaceId) → all_sent_with contents measure space (both.loses space) past
+        ≡ all_sent_with contents measure space (one.loses space) past
+        + all_sent_with contents measure space (two.loses space) past
+    -- the later one loses nothing that the earlier one sends
+    pub apart : (space : SpaceId) → (one.sends ≡ None) ⊎ (two.loses space ≡ [])
+
+  lost_before : (one : ContentsTurn P) (measure : P → ℕ) (space : SpaceId) (numbers : List ℕ)
+      (past between : History Q S M P) → CarriesOn contents one past between → (one.sends ≡ None) ⊎ (numbers ≡ [])
+      → all_sent_with contents measure space numbers between ≡ all_sent_with contents measure space numbers past
+  lost_before one measure space numbers past between goes (inl none) =
+      all_same measure space numbers past between
+      (λ n. let is = goes.sent measure space n in
+      let zero = ap (λ (sends : Option (SpaceId × ℕ × P)). amount_with measure space n sends) none in
+      omega (arith, is, zero))
+  lost_before one measure space numbers past between goes (inr none) = rw none refl
+
+  pub chained : (one two both : ContentsTurn P) (past between after : History Q S M P) → Joins past one two both
+      → CarriesOn contents one past between → CarriesOn contents two between after → CarriesOn contents both past after
+  chained one two both past between after joins first second = record {
+    taken = λ measure space. (
+        let a = first.taken measure space in
+        let b = second.taken measure space in
+        let all = joins.takes measure space in omega (arith, a, b, all));
+    sent = λ measure space n. (
+        let a = first.sent measure space n in
+        let b = second.sent measure space n in
+        let all = joins.sends measure space n in omega (arith, a, b, all));
+    lost = λ measure space. (
+        let a = first.lost measure space in
+        let b = second.lost measure space in
+        let same = lost_before one measure space (two.loses space) past between first (joins.apart space) in
+        let all = joins.loses measure space in omega (arith, a, b, same, all));
+    probed = λ measure space calm. (
+        let a = first.probed measure space calm in
+        let b = second.probed measure space a.0 in
+        let all = joins.probes measure space in
+        let is = a.1 in
+        let more = b.1 in (b.0, omega (arith, is, more, all)));
   }
 
   pub then_still : (turn : ContentsTurn P) (past between after : History Q S M P)
       → CarriesOn contents turn past between → CarriesOn contents (losing none_lost) between after
       → CarriesOn contents turn past after
-  then_still turn past between after first second = record {
-    taken = λ measure space. (
-        let one = first.taken measure space in
-        let two = second.taken measure space in omega (arith, one, two));
-    sent = λ measure space n. (
-        let one = first.sent measure space n in
-        let two = second.sent measure space n in omega (arith, one, two));
-    lost = λ measure space. (
-        let one = first.lost measure space in
-        let two = second.lost measure space in omega (arith, one, two));
-  }
+  then_still turn past between after = chained turn (losing none_lost) turn past between after (record {
+    takes = λ measure space. omega arith;
+    probes = λ measure space. omega arith;
+    sends = λ measure space n. omega arith;
+    loses = λ measure space. omega arith;
+    apart = λ space. inr refl;
+  })
 
   pub still_then : (turn : ContentsTurn P) (past between after : History Q S M P)
       → CarriesOn contents (losing none_lost) past between → CarriesOn contents turn between after
       → CarriesOn contents turn past after
-  still_then turn past between after first second = record {
-    taken = λ measure space. (
-        let one = first.taken measure space in
-        let two = second.taken measure space in omega (arith, one, two));
-    sent = λ measure space n. (
-        let one = first.sent measure space n in
-        let two = second.sent measure space n in omega (arith, one, two));
-    lost = λ measure space. (
-        let one = first.lost measure space in
-        let two = second.lost measure space in
-        let same = all_same measure space (turn.loses space) past between
-        (λ n. let three = first.sent measure space n in omega (arith, three)) in omega (arith, one, two, same));
-  }
+  still_then turn past between after = chained (losing none_lost) turn turn past between after (record {
+    takes = λ measure space. omega arith;
+    probes = λ measure space. omega arith;
+    sends = λ measure space n. omega arith;
+    loses = λ measure space. omega arith;
+    apart = λ space. inl refl;
+  })
 
   pub losing_then : (some more : SpaceId → List ℕ) (past between after : History Q S M P)
       → CarriesOn contents (losing some) past between → CarriesOn contents (losing more) between after
       → CarriesOn contents (losing (λ space. some space ++ more space)) past after
-  losing_then some more past between after first second = record {
-    taken = λ measure space. (
-        let one = first.taken measure space in
-        let two = second.taken measure space in omega (arith, one, two));
-    sent = λ measure space n. (
-        let one = first.sent measure space n in
-        let two = second.sent measure space n in omega (arith, one, two));
-    lost = λ measure space. (
-        let one = first.lost measure space in
-        let two = second.lost measure space in
-        let same = all_same measure space (more space) past between
-        (λ n. let three = first.sent measure space n in omega (arith, three)) in
-        let both = all_append measure space (some space) (more space) past in omega (arith, one, two, same, both));
-  }
+  losing_then some more past between after =
+      chained (losing some) (losing more) (losing (λ space. some space ++ more space)) past between after (record {
+        takes = λ measure space. refl;
+        probes = λ measure space. refl;
+        sends = λ measure space n. refl;
+        loses = λ measure space. all_append measure space (some space) (more space) past;
+        apart = λ space. inl refl;
+      })
+
+  -- what was taken, or other contents, is sent
+  pub taken_then_sent : (probe : Bool) (there : SpaceId) (more : P) (n : ℕ) (items : P)
+      (past between after : History Q S M P) → CarriesOn contents (taking probe there more) past between
+      → CarriesOn contents (sending_with there n items) between after
+      → CarriesOn contents (record {
+        takes = Some (there, more);
+        probes = taken_if probe there more;
+        sends = Some (there, n, items);
+        loses = none_lost;
+      }) past after
+  taken_then_sent probe there more n items past between after =
+      chained (taking probe there more) (sending_with there n items) (record {
+        takes = Some (there, more);
+        probes = taken_if probe there more;
+        sends = Some (there, n, items);
+        loses = none_lost;
+      }) past between after (record {
+        takes = λ measure space. omega arith;
+        probes = λ measure space. omega arith;
+        sends = λ measure space n. omega arith;
+        loses = λ measure space. refl;
+        apart = λ space. inl refl;
+      })
 
   pub losing_as : (some other : SpaceId → List ℕ) → ((space : SpaceId) → other space ≡ some space)
       → (past after : History Q S M P) → CarriesOn contents (losing some) past after
@@ -138,6 +214,7 @@ module _ {Q S M P : Type 0} (contents : Q → P) where
   losing_as some other same past after goes = record {
     taken = goes.taken;
     sent = goes.sent;
+    probed = goes.probed;
     lost = λ measure space. subst (λ (numbers : List ℕ). lost_there contents measure space after
         ≡ all_sent_with contents measure space numbers past + lost_there contents measure space past)
         (sym (same space)) (goes.lost measure space);
@@ -150,6 +227,7 @@ module _ {Q S M P : Type 0} (contents : Q → P) where
   IsStill (events.Send space now size eliciting largest queue frames) (Ok answer) = ⊥
   IsStill (events.Lost space number) (Ok answer) = ⊥
   IsStill (events.TakePending space) (Ok answer) = ⊥
+  IsStill (events.QueueProbe space immediate streams) (Ok answer) = ⊥
   IsStill event reply = Unit {0}
 
   still_taken : (event : Event Q S M P) (reply : Reply Q) → IsStill event reply → (past : History Q S M P)
@@ -175,21 +253,55 @@ module _ {Q S M P : Type 0} (contents : Q → P) where
   still_lost (events.Lost there n) (Err refusal) still past measure space = refl
   still_lost event reply still past measure space = refl
 
+  still_probed : (event : Event Q S M P) (reply : Reply Q) → IsStill event reply → (past : History Q S M P)
+      (measure : P → ℕ) (space : SpaceId) → is_probing space past ≡ false
+      → (is_probing space ((event, reply) ∷ past) ≡ false)
+      × (probed_there contents measure space ((event, reply) ∷ past) ≡ 0 + probed_there contents measure space past)
+  still_probed (events.TakePending there) (Ok answer) still past measure space calm = absurd still
+  still_probed (events.TakePending there) (Err refusal) still past measure space calm = (calm, zero_plus _)
+  still_probed (events.QueueProbe there immediate streams) (Ok answer) still past measure space calm = absurd still
+  still_probed (events.QueueProbe there immediate streams) (Err refusal) still past measure space calm =
+      (calm, zero_plus _)
+  still_probed event reply still past measure space calm = (calm, zero_plus _)
+
   pub still_event : (event : Event Q S M P) (reply : Reply Q) → IsStill event reply → (past : History Q S M P)
       → CarriesOn contents (losing none_lost) past ((event, reply) ∷ past)
   still_event event reply still past = record {
     taken = λ measure space. still_taken event reply still past measure space ∙ zero_plus _;
     sent = λ measure space n. still_sent event reply still past measure space n ∙ zero_plus _;
     lost = λ measure space. still_lost event reply still past measure space ∙ zero_plus _;
+    probed = still_probed event reply still past;
   }
 
+  -- the retransmission queue is taken
   pub taken_event : (there : SpaceId) (queue : Q) (past : History Q S M P)
-      → CarriesOn contents (taking there (contents queue)) past
+      → CarriesOn contents (taking false there (contents queue)) past
       ((events.TakePending there, Ok (answers.Queue queue)) ∷ past)
   taken_event there queue past = record {
     taken = λ measure space. refl;
     sent = λ measure space n. zero_plus _;
     lost = λ measure space. zero_plus _;
+    probed = λ measure space calm. (
+      calm_then (same_space there space) (is_probing space past) calm,
+      none_probed (same_space there space) (is_probing space past) (measure (contents queue))
+          (probed_there contents measure space past) calm,
+    );
+  }
+
+  -- by a probe
+  pub probe_events : (there : SpaceId) (immediate : Bool) (streams : S) (answer : Answer Q) (queue : Q)
+      (past : History Q S M P) → CarriesOn contents (taking true there (contents queue)) past
+      ((events.TakePending there, Ok (answers.Queue queue))
+      ∷ (events.QueueProbe there immediate streams, Ok answer) ∷ past)
+  probe_events there immediate streams answer queue past = record {
+    taken = λ measure space. refl;
+    sent = λ measure space n. zero_plus _;
+    lost = λ measure space. zero_plus _;
+    probed = λ measure space calm. (
+      calm_again (same_space there space) (is_probing space past) calm,
+      all_probed (same_space there space) (is_probing space past) (measure (contents queue))
+          (probed_there contents measure space past),
+    );
   }
 
   pub sent_event : (there : SpaceId) (now size : ℕ) (eliciting : Bool) (largest : Option ℕ) (queue : Q) (frames : M)
@@ -200,6 +312,7 @@ module _ {Q S M P : Type 0} (contents : Q → P) where
     taken = λ measure space. zero_plus _;
     sent = λ measure space n. refl;
     lost = λ measure space. zero_plus _;
+    probed = λ measure space calm. (calm, zero_plus _);
   }
 
 -- these numbers, of one space
@@ -225,6 +338,7 @@ module _ {Q S M P : Type 0} (contents : Q → P) where
     sent = λ measure space n. zero_plus _;
     lost = λ measure space. lost_one (same_space there space) measure space n past
         (lost_there contents measure space past);
+    probed = λ measure space calm. (calm, zero_plus _);
   }
 
 -- ---- steps
@@ -462,17 +576,31 @@ module _ {F Q R C K S M P : Type 0} {f : _} {c : _} {q : _} {m : _} {r : _} wher
         (state_in old) (state_in new) still goes.leads past came;
   }
 
-  pub call_carries : (steps : List (SenderStep Q S M P)) (kept : Variables) (old new : Sender F Q R C K S M P f c q m r)
-      → CompletesCall steps kept old new → AreStill q.contents steps → CarriesNone old new
-  call_carries steps kept old new does still = record {
+  -- a call takes steps by which each past goes on so, and sets the timer
+  completes : (turn : ContentsTurn P) (steps : List (SenderStep Q S M P)) (kept : Variables)
+      (old new : Sender F Q R C K S M P f c q m r) → CompletesCall steps kept old new
+      → ((config : RecoveryConfig F) (start : ℕ) (random : Stream) (past : History Q S M P)
+      (between : RecoveryState K P M)
+      → StepsLeadTo f.built c.words (queue_model q.contents q.words q.blank) steps (state_in old) between
+      → (let beginning = begins f.built c.words (queue_model q.contents q.words q.blank) config start random in
+      ReachedBy beginning past (state_in old)
+      → (after : History Q S M P) × ReachedBy beginning after between × CarriesOn q.contents turn past after))
+      → Carries turn old new
+  completes turn steps kept old new does goes = record {
     from = λ config start random past came. (
         let queue = queue_model q.contents q.words q.blank in
-        let one = leads_still f.built c.words queue config start random steps (state_in old) does.between still
-        does.leads past came in
+        let one = goes config start random past does.between does.leads came in
         let two = rearms_still f.built c.words queue config start random kept does.between (state_in new) does.sets
         one.0 one.1 in
-        (two.0, two.1, then_still q.contents (losing none_lost) past one.0 two.0 one.2 two.2));
+        (two.0, two.1, then_still q.contents turn past one.0 two.0 one.2 two.2));
   }
+
+  pub call_carries : (steps : List (SenderStep Q S M P)) (kept : Variables) (old new : Sender F Q R C K S M P f c q m r)
+      → CompletesCall steps kept old new → AreStill q.contents steps → CarriesNone old new
+  call_carries steps kept old new does still = completes (losing none_lost) steps kept old new does
+      (λ config start random past between leads came.
+      leads_still f.built c.words (queue_model q.contents q.words q.blank) config start random steps (state_in old)
+      between still leads past came)
 
   -- a call that may fail
   pub tries_carries : {A : Type 0} (Steps : A → List (SenderStep Q S M P)) (kept : A → Variables)
@@ -507,38 +635,19 @@ module _ {F Q R C K S M P : Type 0} {f : _} {c : _} {q : _} {m : _} {r : _} wher
 
   -- ---- contents
 
-  -- the retransmission queue is taken, after steps by which nothing is
-  takes_by_call : (steps : List (SenderStep Q S M P)) (space : SpaceId) (queue : Q) (kept : Variables)
-      (old new : Sender F Q R C K S M P f c q m r) → AreStill q.contents steps
-      → CompletesCall (steps ++ told (events.TakePending space) (Ok (answers.Queue queue)) ∷ []) kept old new
-      → Carries (taking space (q.contents queue)) old new
-  takes_by_call steps space queue kept old new still does = record {
-    from = λ config start random past came. (
-        let model = queue_model q.contents q.words q.blank in
-        let split = parts f.built c.words model config start random steps
-        (told (events.TakePending space) (Ok (answers.Queue queue)) ∷ []) (state_in old) does.between does.leads in
-        let one = leads_still f.built c.words model config start random steps (state_in old) split.0 still split.1 past
-        came in
-        let taken = split.2 in
-        let two = taken.2 config start random one.0 one.1 in
-        let three = rearms_still f.built c.words model config start random kept does.between (state_in new) does.sets
-        ((events.TakePending space, Ok (answers.Queue queue)) ∷ one.0)
-        (subst (λ (at : RecoveryState K P M). ReachedBy (begins f.built c.words model config start random)
-        ((events.TakePending space, Ok (answers.Queue queue)) ∷ one.0) at) (sym taken.3) two.came) in (
-          three.0,
-          three.1,
-          then_still q.contents (taking space (q.contents queue)) past
-              ((events.TakePending space, Ok (answers.Queue queue)) ∷ one.0) three.0
-              (still_then q.contents (taking space (q.contents queue)) past one.0
-              ((events.TakePending space, Ok (answers.Queue queue)) ∷ one.0) one.2
-              (taken_event q.contents space queue one.0)) three.2,
-        ));
-  }
-
+  -- the retransmission queue is taken
   pub pending_carries : (space : SpaceId) (queue : Q) (old new : Sender F Q R C K S M P f c q m r)
       → EventResult (events.TakePending space) old new (Ok (answers.Queue queue))
-      → Carries (taking space (q.contents queue)) old new
-  pending_carries space queue old new does = takes_by_call [] space queue _ old new tt does
+      → Carries (taking false space (q.contents queue)) old new
+  pending_carries space queue old new does = completes (taking false space (q.contents queue)) _ _ old new does
+      (λ config start random past between leads came. (
+        (events.TakePending space, Ok (answers.Queue queue)) ∷ past,
+        subst (λ (at : RecoveryState K P M). ReachedBy (begins f.built c.words
+            (queue_model q.contents q.words q.blank) config start random)
+            ((events.TakePending space, Ok (answers.Queue queue)) ∷ past) at) (sym leads.3)
+            (leads.2 config start random past came).came,
+        taken_event q.contents space queue past,
+      ))
 
   -- an event that fails
   pub failed_carries : (event : Event Q S M P) (old new : Sender F Q R C K S M P f c q m r)
@@ -549,9 +658,22 @@ module _ {F Q R C K S M P : Type 0} {f : _} {c : _} {q : _} {m : _} {r : _} wher
 
   pub probe_carries : (space : SpaceId) (immediate : Bool) (streams : S) (queue : Q)
       (old new : Sender F Q R C K S M P f c q m r) → ProbeResult space immediate streams old new (Ok queue)
-      → Carries (taking space (q.contents queue)) old new
-  probe_carries space immediate streams queue old new is = takes_by_call
-      (told (events.QueueProbe space immediate streams) (Ok is.1) ∷ []) space queue old.variables old new (tt, tt) is.2
+      → Carries (taking true space (q.contents queue)) old new
+  probe_carries space immediate streams queue old new is =
+      completes (taking true space (q.contents queue)) _ old.variables old new is.2
+      (λ config start random past between leads came. (
+      let one = leads.2 config start random past came in
+      let next = leads.3 in
+      let two = next.2 config start random ((events.QueueProbe space immediate streams, Ok is.1) ∷ past)
+      one.came in (
+        (events.TakePending space, Ok (answers.Queue queue))
+            ∷ (events.QueueProbe space immediate streams, Ok is.1) ∷ past,
+        subst (λ (at : RecoveryState K P M). ReachedBy (begins f.built c.words
+            (queue_model q.contents q.words q.blank) config start random)
+            ((events.TakePending space, Ok (answers.Queue queue))
+            ∷ (events.QueueProbe space immediate streams, Ok is.1) ∷ past) at) (sym next.3) two.came,
+        probe_events q.contents space immediate streams is.1 queue past,
+      )))
 
   pub no_probe_carries : (space : SpaceId) (immediate : Bool) (streams : S) (old new : Sender F Q R C K S M P f c q m r)
       (refusal : SenderError) → ProbeResult space immediate streams old new (Err refusal) → CarriesNone old new
@@ -561,7 +683,7 @@ module _ {F Q R C K S M P : Type 0} {f : _} {c : _} {q : _} {m : _} {r : _} wher
 
   pub probe_matches : (space : SpaceId) (immediate : Bool) (streams : S) (result : Result Q SenderError)
       (old new : Sender F Q R C K S M P f c q m r) → ProbeResult space immediate streams old new result
-      → MatchResult result (λ queue. Carries (taking space (q.contents queue)) old new)
+      → MatchResult result (λ queue. Carries (taking true space (q.contents queue)) old new)
       (λ refusal. CarriesNone old new)
   probe_matches space immediate streams (Ok queue) old new is = probe_carries space immediate streams queue old new is
   probe_matches space immediate streams (Err refusal) old new is =
@@ -573,24 +695,19 @@ module _ {F Q R C K S M P : Type 0} {f : _} {c : _} {q : _} {m : _} {r : _} wher
       → CompletesCall (told (events.Send space now size eliciting largest queue frames)
       (Ok (answers.Sent number forgotten)) ∷ []) kept old new
       → Carries (sending_with space number (q.contents queue)) old new
-  send_carries space now size eliciting largest queue frames number forgotten kept old new does = record {
-    from = λ config start random past came. (
-        let model = queue_model q.contents q.words q.blank in
-        let leads = does.leads in
-        let sent : Event Q S M P × Reply Q = (
-          events.Send space now size eliciting largest queue frames,
-          Ok (answers.Sent number forgotten),
-        ) in
-        let one = leads.2 config start random past came in
-        let two = rearms_still f.built c.words model config start random kept does.between (state_in new) does.sets
-        (sent ∷ past) (subst (λ (at : RecoveryState K P M). ReachedBy (begins f.built c.words model config start random)
-        (sent ∷ past) at) (sym leads.3) one.came) in (
-          two.0,
-          two.1,
-          then_still q.contents (sending_with space number (q.contents queue)) past (sent ∷ past) two.0
-              (sent_event q.contents space now size eliciting largest queue frames number forgotten past) two.2,
-        ));
-  }
+  send_carries space now size eliciting largest queue frames number forgotten kept old new does =
+      completes (sending_with space number (q.contents queue)) _ kept old new does
+      (λ config start random past between leads came. (
+      let sent : Event Q S M P × Reply Q = (
+        events.Send space now size eliciting largest queue frames,
+        Ok (answers.Sent number forgotten),
+      ) in (
+        sent ∷ past,
+        subst (λ (at : RecoveryState K P M). ReachedBy (begins f.built c.words
+            (queue_model q.contents q.words q.blank) config start random) (sent ∷ past) at) (sym leads.3)
+            (leads.2 config start random past came).came,
+        sent_event q.contents space now size eliciting largest queue frames number forgotten past,
+      )))
 
   -- ---- losses
 

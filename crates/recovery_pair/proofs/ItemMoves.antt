@@ -1,11 +1,10 @@
 -- What an endpoint takes, sends and loses at each step, from its calls.
-use Rattle.std.proofs.Common.{◌≡◌, ℕ, ◌+◌, ◌<◌, ◌==◌, Bool, true, false, List, [], ◌∷◌, ◌++◌, length, get_or, Option, None, Some, Ok, zero, suc, refl, sym, ap, subst, ◌∙◌, arith}
+use Rattle.std.proofs.Common.{◌≡◌, ℕ, ◌+◌, ◌<◌, ◌==◌, ◌⊎◌, inl, inr, Bool, true, false, List, [], ◌∷◌, ◌++◌, length, get_or, Option, None, Some, Ok, zero, suc, refl, sym, ap, subst, ◌∙◌, arith}
 use Rattle.std.proofs.lemmas.Bool.Decides.{nat_tests}
 use Rattle.std.specs.Global.{Vec}
 use Rattle.std.specs.List.{remove}
 use Rattle.recovery_base.specs.declared.below.SpaceId.{SpaceId}
 use Rattle.recovery_base.specs.Spaces.{same_space}
-use Rattle.recovery_history.specs.History.{History}
 use Rattle.recovery_history.proofs.TrackedLaws.{one_space}
 use Rattle.recovery_sender.specs.declared.sender.Sender.{Sender}
 use Rattle.recovery_pair.specs.declared.endpoint.Outgoing.{Outgoing}
@@ -13,10 +12,11 @@ use Rattle.recovery_pair.specs.declared.endpoint.Outgoing.TheVariants as outgoin
 use Rattle.recovery_pair.specs.declared.endpoint.Waiting.{Waiting}
 use Rattle.recovery_pair.specs.declared.steps.AckOutcome.{AckOutcome}
 use Rattle.recovery_pair.specs.declared.steps.Fate.TheVariants.{New}
-use Rattle.recovery_pair.specs.Carried.{Balances, Carries, CarriesNone, CarriesOn, Exchanges, MovesItems, MovesNone, MovesSent, lost_by_ack, lost_by_fate, losing, none_lost, sending_with, taking}
+use Rattle.recovery_pair.specs.Carried.{Balances, Carries, CarriesNone, CarriesOn, ContentsTurn, Exchanges, IsNoProbe, IsProbeIn, IsProbeWith, MovesBack, MovesItems, MovesNone, MovesSent, TakesItems, lost_by_ack, lost_by_fate, losing, none_lost, sending_with, taken_if, taking}
 use Rattle.recovery_pair.specs.Logs.{part}
 use Rattle.recovery_pair.specs.Waits.{waiting_in}
-use Rattle.recovery_pair.proofs.ItemLaws.{carries_then, same_carries, then_carries}
+use Rattle.recovery_pair.specs.Promises.Repeats.{is_probe}
+use Rattle.recovery_pair.proofs.ItemLaws.{carries_then, same_carries, taken_then_sent, then_carries}
 use Rattle.recovery_pair.proofs.QuietLaws.{joined}
 
 -- ---- what waits
@@ -26,7 +26,7 @@ pub none_exchanged : (there : SpaceId) (items : List ℕ) (old new : List Waitin
 none_exchanged there items old new same measure none space =
     ap (λ (all : List Waiting). part (same_space there space) (measure items) + waiting_in measure space all) (sym same)
 
-empty_part : (b : Bool) (amount : ℕ) → amount ≡ 0 → part b amount ≡ 0
+pub empty_part : (b : Bool) (amount : ℕ) → amount ≡ 0 → part b amount ≡ 0
 empty_part true amount none = none
 empty_part false amount none = refl
 
@@ -80,38 +80,45 @@ one_added there old new last is pushed measure none space =
         (part (same_space last.space space) (measure last.queue)) (waiting_in measure space (all ++ last ∷ []))
         (waiting_in measure space all) (pushes all)
 
--- ---- one turn after another
+-- ---- what a probe takes
 
-module _ {Q S M P : Type 0} (contents : Q → P) where
-  -- what was taken, or other contents, is sent
-  taken_then_sent : (there : SpaceId) (more : P) (n : ℕ) (items : P) (past between after : History Q S M P)
-      → CarriesOn contents (taking there more) past between → CarriesOn contents (sending_with there n items) between
-      after
-      → CarriesOn contents (record { takes = Some (there, more); sends = Some (there, n, items); loses = none_lost })
-      past after
-  taken_then_sent there more n items past between after first second = record {
-    taken = λ measure space. (
-        let one = first.taken measure space in
-        let two = second.taken measure space in omega (arith, one, two));
-    sent = λ measure space n. (
-        let one = first.sent measure space n in
-        let two = second.sent measure space n in omega (arith, one, two));
-    lost = λ measure space. (
-        let one = first.lost measure space in
-        let two = second.lost measure space in omega (arith, one, two));
-  }
+-- what is sent, if there is anything
+probe_sends : (probe : Bool) (space : SpaceId) (queued queue items : List ℕ) → (queued ≡ []) ⊎ (queue ≡ queued)
+    → items ≡ queue → IsProbeWith probe space items (taken_if probe space queued)
+probe_sends true space queued queue items (inl none) same = (refl, inl none)
+probe_sends true space queued queue items (inr is) same = (refl, inr (same ∙ is))
+probe_sends false space queued queue items first same = tt
+
+pub probe_there : (probe : Bool) (space : SpaceId) (queued : List ℕ) → IsProbeIn space (taken_if probe space queued)
+probe_there true space queued = refl
+probe_there false space queued = tt
+
+-- ---- one turn after another
 
 module _ {F Q R C K S M : Type 0} {f : _} {c : _} {q : _} {m : _} {r : _} where
   -- calls that leave what waits
-  pub calls_move : (numbers : SpaceId → List ℕ) (old new : Sender F Q R C K S M (List ℕ) f c q m r)
-      (waits after : List Waiting) → Carries (losing numbers) old new → after ≡ waits
-      → MovesItems None None numbers (old, waits) (new, after)
-  calls_move numbers old new waits after goes kept = record {
+  moves_by : (numbers : SpaceId → List ℕ) (IsProbed : Option (SpaceId × List ℕ) → Type 0) → IsProbed None
+      → (old new : Sender F Q R C K S M (List ℕ) f c q m r) (waits after : List Waiting)
+      → Carries (losing numbers) old new → after ≡ waits
+      → MovesItems None None numbers IsProbed (old, waits) (new, after)
+  moves_by numbers IsProbed idle old new waits after goes kept = record {
     takes = None;
+    probes = None;
+    probed = idle;
     goes = goes;
     balances = λ measure none space. (
         let same = ap (λ (all : List Waiting). waiting_in measure space all) kept in omega (arith, same));
   }
+
+  pub calls_move : (numbers : SpaceId → List ℕ) (old new : Sender F Q R C K S M (List ℕ) f c q m r)
+      (waits after : List Waiting) → Carries (losing numbers) old new → after ≡ waits
+      → MovesItems None None numbers IsNoProbe (old, waits) (new, after)
+  calls_move numbers = moves_by numbers IsNoProbe tt
+
+  -- or of which one tried a probe
+  pub none_back : (space : SpaceId) (old new : Sender F Q R C K S M (List ℕ) f c q m r) (waits after : List Waiting)
+      → CarriesNone old new → after ≡ waits → MovesBack space (old, waits) (new, after)
+  none_back space = moves_by none_lost (IsProbeIn space) tt
 
   -- nothing changes
   pub same_moves : (old new : Sender F Q R C K S M (List ℕ) f c q m r) (waits after : List Waiting) → new ≡ old
@@ -123,44 +130,52 @@ module _ {F Q R C K S M : Type 0} {f : _} {c : _} {q : _} {m : _} {r : _} where
       (old counted heard taken new : Sender F Q R C K S M (List ℕ) f c q m r) (waits after : List Waiting)
       → CarriesNone old counted → CarriesNone counted heard → Carries (losing (lost_by_ack space acked)) heard taken
       → CarriesNone taken new → after ≡ waits
-      → MovesItems None None (lost_by_fate space (Ok (New items acked))) (old, waits) (new, after)
+      → MovesItems None None (lost_by_fate space (Ok (New items acked))) IsNoProbe (old, waits) (new, after)
   hears_move space items acked old counted heard taken new waits after first second third fourth kept =
       calls_move (lost_by_fate space (Ok (New items acked))) old new waits after
       (then_carries _ old counted new first (then_carries _ counted heard new second
       (carries_then _ heard taken new third fourth))) kept
 
   -- a packet is sent with what was to be repeated, or with what waited
-  pub sends_move : (space : SpaceId) (n : ℕ) (repeated queue items : List ℕ)
-      (old taken sent new : Sender F Q R C K S M (List ℕ) f c q m r) (waits after : List Waiting)
-      → Carries (taking space repeated) old taken → Carries (sending_with space n queue) taken sent
-      → CarriesNone sent new → Exchanges waits after space repeated queue → items ≡ queue
-      → MovesItems None (Some (space, n, items)) none_lost (old, waits) (new, after)
-  sends_move space n repeated queue items old taken sent new waits after first second third exchanges same = record {
-    takes = Some (space, repeated);
-    goes = subst (λ (these : List ℕ). Carries
-        (record { takes = Some (space, repeated); sends = Some (space, n, these); loses = none_lost }) old new)
-        (sym same) (carries_then _ old sent new (joined (CarriesOn q.contents (taking space repeated))
-        (CarriesOn q.contents (sending_with space n queue))
-        (CarriesOn q.contents
-        (record { takes = Some (space, repeated); sends = Some (space, n, queue); loses = none_lost }))
-        (taken_then_sent q.contents space repeated n queue) old taken sent first second) third);
-    balances = λ measure none there. (
-        let one = exchanges measure none there in
-        let two = ap (λ (these : List ℕ). part (same_space space there) (measure these)) same in
-        omega (arith, one, two));
-  }
+  pub sends_move : (probe : Bool) (space : SpaceId) (n : ℕ) (queue items : List ℕ)
+      (old taken sent new : Sender F Q R C K S M (List ℕ) f c q m r) (waits between after : List Waiting)
+      → TakesItems probe space queue (old, waits) (taken, between) → Carries (sending_with space n queue) taken sent
+      → CarriesNone sent new → after ≡ between → items ≡ queue
+      → MovesItems None (Some (space, n, items)) none_lost (IsProbeWith probe space items) (old, waits) (new, after)
+  sends_move probe space n queue items old taken sent new waits between after takes second third kept same =
+      let Turn : List ℕ → ContentsTurn (List ℕ) = λ these. record {
+        takes = Some (space, takes.queued);
+        probes = taken_if probe space takes.queued;
+        sends = Some (space, n, these);
+        loses = none_lost;
+      } in
+      record {
+        takes = Some (space, takes.queued);
+        probes = taken_if probe space takes.queued;
+        probed = probe_sends probe space takes.queued queue items takes.first same;
+        goes = subst (λ (these : List ℕ). Carries (Turn these) old new) (sym same)
+            (carries_then (Turn queue) old sent new (joined (CarriesOn q.contents (taking probe space takes.queued))
+            (CarriesOn q.contents (sending_with space n queue)) (CarriesOn q.contents (Turn queue))
+            (taken_then_sent q.contents probe space takes.queued n queue) old taken sent takes.goes second) third);
+        balances = λ measure none there. (
+            let one = takes.exchanges measure none there in
+            let two = ap (λ (these : List ℕ). part (same_space space there) (measure these)) same in
+            let three = ap (λ (all : List Waiting). waiting_in measure there all) kept in
+            omega (arith, one, two, three));
+      }
 
   -- it cannot be sent: what was taken waits again
-  pub keeps_move : (space : SpaceId) (repeated queue again : List ℕ)
+  pub keeps_move : (probe : Bool) (space : SpaceId) (queue again : List ℕ)
       (old taken new : Sender F Q R C K S M (List ℕ) f c q m r) (waits between after : List Waiting)
-      → Carries (taking space repeated) old taken → CarriesNone taken new
-      → Exchanges waits between space repeated queue → Exchanges between after space again [] → again ≡ queue
-      → MovesNone (old, waits) (new, after)
-  keeps_move space repeated queue again old taken new waits between after first second takes puts same = record {
-    takes = Some (space, repeated);
-    goes = carries_then (taking space repeated) old taken new first second;
+      → TakesItems probe space queue (old, waits) (taken, between) → CarriesNone taken new
+      → Exchanges between after space again [] → again ≡ queue → MovesBack space (old, waits) (new, after)
+  keeps_move probe space queue again old taken new waits between after takes second puts same = record {
+    takes = Some (space, takes.queued);
+    probes = taken_if probe space takes.queued;
+    probed = probe_there probe space takes.queued;
+    goes = carries_then (taking probe space takes.queued) old taken new takes.goes second;
     balances = λ measure none there. (
-        let one = takes measure none there in
+        let one = takes.exchanges measure none there in
         let two = puts measure none there in
         let three = ap (λ (these : List ℕ). part (same_space space there) (measure these)) same in
         let four = empty_part (same_space space there) (measure []) none in omega (arith, one, two, three, four));
@@ -169,9 +184,11 @@ module _ {F Q R C K S M : Type 0} {f : _} {c : _} {q : _} {m : _} {r : _} where
   -- items are passed
   pub hands_move : (space : SpaceId) (items : List ℕ) (old new : Sender F Q R C K S M (List ℕ) f c q m r)
       (waits after : List Waiting) → new ≡ old → Exchanges waits after space items []
-      → MovesItems (Some (space, items)) None none_lost (old, waits) (new, after)
+      → MovesItems (Some (space, items)) None none_lost IsNoProbe (old, waits) (new, after)
   hands_move space items old new waits after same puts = record {
     takes = None;
+    probes = None;
+    probed = tt;
     goes = same_carries old new same;
     balances = λ measure none there. (
         let one = puts measure none there in
@@ -180,11 +197,14 @@ module _ {F Q R C K S M : Type 0} {f : _} {c : _} {q : _} {m : _} {r : _} where
 
   -- after a call that takes, sends and loses nothing
   then_moves : (hands : Option (SpaceId × List ℕ)) (sends : Option (SpaceId × ℕ × List ℕ)) (loses : SpaceId → List ℕ)
-      (old between new : Sender F Q R C K S M (List ℕ) f c q m r) (waits same after : List Waiting)
-      → CarriesNone old between → same ≡ waits → MovesItems hands sends loses (between, same) (new, after)
-      → MovesItems hands sends loses (old, waits) (new, after)
-  then_moves hands sends loses old between new waits same after first is moves = record {
+      (IsProbed : Option (SpaceId × List ℕ) → Type 0) (old between new : Sender F Q R C K S M (List ℕ) f c q m r)
+      (waits same after : List Waiting) → CarriesNone old between → same ≡ waits
+      → MovesItems hands sends loses IsProbed (between, same) (new, after)
+      → MovesItems hands sends loses IsProbed (old, waits) (new, after)
+  then_moves hands sends loses IsProbed old between new waits same after first is moves = record {
     takes = moves.takes;
+    probes = moves.probes;
+    probed = moves.probed;
     goes = then_carries _ old between new first moves.goes;
     balances = subst (λ (all : List Waiting). Balances all after hands moves.takes sends) is moves.balances;
   }
@@ -193,12 +213,9 @@ module _ {F Q R C K S M : Type 0} {f : _} {c : _} {q : _} {m : _} {r : _} where
       (waits same after : List Waiting) → CarriesNone old between → same ≡ waits
       → MovesSent space (Ok outcome) (between, same) (new, after)
       → MovesSent space (Ok outcome) (old, waits) (new, after)
-  then_sends space (outgoing.Sent packet items window) old between new waits same after first is moves =
-      then_moves None (Some (space, packet.number, items.items)) none_lost old between new waits same after first is
-      moves
-  then_sends space outgoing.Nothing old between new waits same after first is moves =
-      then_moves None None none_lost old between new waits same after first is moves
-  then_sends space (outgoing.Held held) old between new waits same after first is moves =
-      then_moves None None none_lost old between new waits same after first is moves
-  then_sends space (outgoing.Failed refusal) old between new waits same after first is moves =
-      then_moves None None none_lost old between new waits same after first is moves
+  then_sends space (outgoing.Sent packet items window) =
+      then_moves None (Some (space, packet.number, items.items)) none_lost
+      (IsProbeWith (is_probe packet.eliciting window) space items.items)
+  then_sends space (outgoing.Failed refusal) = then_moves None None none_lost (IsProbeIn space)
+  then_sends space outgoing.Nothing = then_moves None None none_lost IsNoProbe
+  then_sends space (outgoing.Held held) = then_moves None None none_lost IsNoProbe

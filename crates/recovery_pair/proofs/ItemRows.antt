@@ -1,17 +1,19 @@
--- Worked rows of what is sent again, computed: with the right log the promise holds, and with a wrong one it does not.
+-- Worked rows of what is sent again, computed: with the right log each promise holds, and with a wrong one it does not.
 -- Nothing rests on them.
-use Rattle.std.proofs.Common.{◌≡◌, ℕ, true, true≢false, [], ◌∷◌, length, None, Ok, refl, arith}
+use Rattle.std.proofs.Common.{◌≡◌, ℕ, true, true≢false, [], ◌∷◌, length, Option, None, Some, Ok, refl, arith}
 use Rattle.std.proofs.lemmas.List.{length-append}
 use Rattle.std.specs.Global.{Vec}
 use Rattle.recovery_base.specs.declared.below.SpaceId.TheVariants.{Data, Initial}
+use Rattle.recovery_sender.specs.declared.sender.SenderError.{SenderError}
 use Rattle.recovery_sender.specs.declared.sender.losses.Losses.{Losses}
 use Rattle.recovery_sender.specs.declared.sender.probes.Timeout.TheVariants.{Lost}
 use Rattle.recovery_pair.proofs.PairRows.{no_frame}
 use Rattle.recovery_pair.specs.declared.steps.End.TheVariants.{Client, Server}
 use Rattle.recovery_pair.specs.declared.steps.LocalStep.TheVariants.{Discard, Expire, Hand}
-use Rattle.recovery_pair.specs.declared.steps.PairAnswer.TheVariants.{Done, Expired, Nothing, Sent}
+use Rattle.recovery_pair.specs.declared.steps.PairAnswer.TheVariants.{Done, Expired, Failed, Nothing, Sent}
 use Rattle.recovery_pair.specs.declared.steps.PairStep.TheVariants.{Local, Send}
 use Rattle.recovery_pair.specs.Logs.{PairEvent, PairLog}
+use Rattle.recovery_pair.specs.Promises.Repeats.{RepeatsWithCause, probed_in}
 use Rattle.recovery_pair.specs.Promises.Resends.{AddsItems, ResendsWhatIsLost, lost_in}
 
 -- how many items there are
@@ -61,3 +63,64 @@ module _ (items other : Vec ℕ) (losses : Losses) (lost : losses.numbers.items 
 
     not_without_keys : ResendsWhatIsLost ((Local Client (Discard Data 10), Ok Done) ∷ one_lost) nothing_more
     not_without_keys keys measure adds = absurd (true≢false keys)
+
+-- ---- nothing is sent again without cause
+
+module _ (items : Vec ℕ) where
+  -- the same items are sent under this number, for this window
+  abbrev sends_them : ℕ → Option ℕ → PairEvent
+  sends_them n window = (Send Client Data 10 60, Ok (Sent n items true window no_frame))
+
+  -- they were passed once, and are sent for a window
+  abbrev sent_once : PairLog
+  sent_once = sends_them 0 (Some 1500) ∷ (Local Client (Hand Data items), Ok Done) ∷ []
+
+  no_probe_yet : probed_in Client Data length sent_once ≡ 0
+  no_probe_yet = refl
+
+  once_is_right : RepeatsWithCause sent_once
+  once_is_right Client Data tracks measure adds = omega arith
+  once_is_right Client space tracks measure adds = omega arith
+  once_is_right Server space tracks measure adds = omega arith
+
+  -- a probe repeats them
+  a_probe_may : RepeatsWithCause (sends_them 1 None ∷ sent_once)
+  a_probe_may Client Data tracks measure adds = omega arith
+  a_probe_may Client space tracks measure adds = omega arith
+  a_probe_may Server space tracks measure adds = omega arith
+
+  another_packet_may_not : items.items ≡ 7 ∷ [] → ¬ RepeatsWithCause (sends_them 1 (Some 1500) ∷ sent_once)
+  another_packet_may_not these repeats =
+      let most = rw these at (repeats Client Data refl length counts_items) in absurd (omega (arith, most))
+
+  nor_after_the_probe : items.items ≡ 7 ∷ []
+      → ¬ RepeatsWithCause (sends_them 2 (Some 1500) ∷ sends_them 1 None ∷ sent_once)
+  nor_after_the_probe these repeats =
+      let most = rw these at (repeats Client Data refl length counts_items) in absurd (omega (arith, most))
+
+  nor_if_never_passed : items.items ≡ 7 ∷ [] → ¬ RepeatsWithCause (sends_them 0 (Some 1500) ∷ [])
+  nor_if_never_passed these repeats =
+      let most = rw these at (repeats Client Data refl length counts_items) in absurd (omega (arith, most))
+
+  -- number 0 is reported as lost
+  module _ (losses : Losses) (lost : losses.numbers.items ≡ 0 ∷ []) (none : losses.probe ≡ None) where
+    abbrev then_lost : PairLog
+    then_lost = (Local Client (Expire 9), Ok (Expired (Lost Data losses))) ∷ sent_once
+
+    once_more_if_lost : RepeatsWithCause (sends_them 1 (Some 1500) ∷ then_lost)
+    once_more_if_lost Client Data tracks measure adds = rw (lost, none) (omega arith)
+    once_more_if_lost Client space tracks measure adds = omega arith
+    once_more_if_lost Server space tracks measure adds = omega arith
+
+    not_twice : items.items ≡ 7 ∷ []
+        → ¬ RepeatsWithCause (sends_them 2 (Some 1500) ∷ sends_them 1 (Some 1500) ∷ then_lost)
+    not_twice these repeats =
+        let most = rw (lost, none, these) at (repeats Client Data refl length counts_items) in
+        absurd (omega (arith, most))
+
+  -- a packet that could not be tracked ends the promise in its space
+  not_after_a_failure : (refusal : SenderError)
+      → RepeatsWithCause (sends_them 1 (Some 1500) ∷ (Send Client Data 10 60, Ok (Failed refusal)) ∷ sent_once)
+  not_after_a_failure refusal Client Data tracks measure adds = absurd (true≢false tracks)
+  not_after_a_failure refusal Client space tracks measure adds = omega arith
+  not_after_a_failure refusal Server space tracks measure adds = omega arith

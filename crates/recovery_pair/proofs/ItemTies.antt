@@ -1,5 +1,6 @@
--- The log of two endpoints stays tied to what their senders take, send and lose; so nothing is lost.
-use Rattle.std.proofs.Common.{◌≡◌, ℕ, ◌+◌, ◌≤◌, ◌&&◌, ◌==◌, Bool, true, false, List, [], ◌∷◌, Option, None, Some, Result, Ok, refl, sym, ap, ◌∙◌, arith}
+-- The log of two endpoints stays tied to what their senders take, send and lose. So nothing is lost, and nothing is
+-- sent again without cause.
+use Rattle.std.proofs.Common.{◌≡◌, ℕ, ◌+◌, ◌≤◌, ◌&&◌, ◌||◌, ◌==◌, inl, inr, Bool, true, false, List, [], ◌∷◌, Option, None, Some, Result, Ok, refl, sym, ap, ◌∙◌, arith}
 use Rattle.std.specs.Prelude.{if◌then◌else◌}
 use Rattle.std.specs.Global.{Vec}
 use Rattle.recovery_base.specs.declared.below.SpaceId.{SpaceId}
@@ -23,23 +24,32 @@ use Rattle.recovery_pair.specs.declared.steps.Fate.TheVariants.{Dropped, Duplica
 use Rattle.recovery_pair.specs.declared.steps.LocalStep.{LocalStep}
 use Rattle.recovery_pair.specs.declared.steps.LocalStep.TheVariants.{Expire, Hand}
 use Rattle.recovery_pair.specs.declared.steps.PairAnswer.{PairAnswer}
-use Rattle.recovery_pair.specs.declared.steps.PairAnswer.TheVariants.{Arrived, Done, Expired, Nothing, Sent}
+use Rattle.recovery_pair.specs.declared.steps.PairAnswer.TheVariants.{Arrived, Done, Expired, Failed, Nothing, Sent}
 use Rattle.recovery_pair.specs.declared.steps.PairStep.{PairStep}
 use Rattle.recovery_pair.specs.declared.steps.PairStep.TheVariants.{Arrive, Local, Send}
-use Rattle.recovery_pair.specs.Carried.{AddsContents, CarriesItems, MovesItems, MovesNone, all_sent_with, amount_of, amount_sent, amount_with, hands_by, lost_by_fate, lost_by_local, lost_by_timeout, none_lost}
+use Rattle.recovery_pair.specs.Carried.{CarriesItems, IsNoProbe, IsProbeIn, IsProbeWith, MovesBack, MovesItems, MovesNone, all_sent_with, amount_of, amount_sent, amount_with, hands_by, lost_by_fate, lost_by_local, lost_by_timeout, none_lost}
 use Rattle.recovery_pair.specs.Logs.{PairEvent, PairLog, handed, other_end, part, sends_of, sent_in, was_discarded}
 use Rattle.recovery_pair.specs.Permits.{HoldsAt, IsIdle, PermitsOutcome}
+use Rattle.recovery_pair.specs.Promises.Repeats.{RepeatsWithCause, has_failed, is_probe, probed_in}
 use Rattle.recovery_pair.specs.Promises.Resends.{AddsItems, ResendsWhatIsLost, lost_by, lost_in, sent_under, sum_of}
 use Rattle.recovery_pair.specs.Turns.{TurnsAt}
 use Rattle.recovery_pair.specs.Waits.{LosesNone, waiting_in}
-use Rattle.recovery_pair.proofs.ItemMoves.{same_moves}
+use Rattle.recovery_pair.proofs.ItemMoves.{empty_part, same_moves}
 use Rattle.recovery_pair.proofs.LogLaws.{IsNoPacket, IsNotLocal}
-use Rattle.recovery_pair.proofs.RequeueLaws.{requeues_lost}
+use Rattle.recovery_pair.proofs.RepeatLaws.{repeats_lost}
+use Rattle.recovery_pair.proofs.RequeueLaws.{or_first, or_second, requeues_lost}
 
 -- ---- what a step adds to the log of one endpoint
 
+-- what its probes take is sent in probes, unless a packet cannot be tracked
+abbrev pub AddsProbes : PairEvent → PairLog → End → Option (SpaceId × List ℕ) → Type 0
+AddsProbes event log end probes = (measure : List ℕ → ℕ) → measure [] ≡ 0 → (space : SpaceId)
+    → has_failed end space (event ∷ log) ≡ false → (has_failed end space log ≡ false)
+    × (amount_of measure space probes + probed_in end space measure log ≤ probed_in end space measure (event ∷ log))
+
 pub record AddsToLog (event : PairEvent) (log : PairLog) (end : End) (hands : Option (SpaceId × List ℕ))
-    (sends : Option (SpaceId × ℕ × List ℕ)) (loses : SpaceId → List ℕ) : Type 0 where
+    (sends : Option (SpaceId × ℕ × List ℕ)) (loses : SpaceId → List ℕ)
+    (IsProbed : Option (SpaceId × List ℕ) → Type 0) : Type 0 where
   pub hands_is : (measure : List ℕ → ℕ) (space : SpaceId) → handed end measure space (event ∷ log)
       ≡ amount_of measure space hands + handed end measure space log
   pub sends_is : (measure : List ℕ → ℕ) (space : SpaceId) → sent_in end measure space (event ∷ log)
@@ -48,6 +58,7 @@ pub record AddsToLog (event : PairEvent) (log : PairLog) (end : End) (hands : Op
       → sum_of measure (sends_of end space n (event ∷ log))
       ≡ amount_with measure space n sends + sum_of measure (sends_of end space n log)
   pub loses_is : (space : SpaceId) → lost_by end space event ≡ loses space
+  pub probes_is : (probes : Option (SpaceId × List ℕ)) → IsProbed probes → AddsProbes event log end probes
 
 zero_plus : (a : ℕ) → a ≡ 0 + a
 zero_plus a = omega arith
@@ -60,14 +71,28 @@ pub record AddsNothing (event : PairEvent) (log : PairLog) (end : End) : Type 0 
       ≡ sent_in end measure space log
   pub under_same : (space : SpaceId) (n : ℕ) → sends_of end space n (event ∷ log) ≡ sends_of end space n log
   pub loses_none : (space : SpaceId) → lost_by end space event ≡ []
+  pub probes_same : (measure : List ℕ → ℕ) (space : SpaceId) → probed_in end space measure (event ∷ log)
+      ≡ probed_in end space measure log
+  pub fails_same : (space : SpaceId) → has_failed end space (event ∷ log) ≡ has_failed end space log
+
+-- no probe takes anything
+unprobed : (event : PairEvent) (log : PairLog) (end : End)
+    → ((measure : List ℕ → ℕ) (space : SpaceId) → probed_in end space measure (event ∷ log)
+    ≡ probed_in end space measure log)
+    → ((space : SpaceId) → has_failed end space (event ∷ log) ≡ has_failed end space log)
+    → (probes : Option (SpaceId × List ℕ)) → IsNoProbe probes → AddsProbes event log end probes
+unprobed event log end same kept None none measure zero space tracks =
+    let is = same measure space in (sym (kept space) ∙ tracks, omega (arith, is))
+unprobed event log end same kept (Some one) none measure zero space tracks = absurd none
 
 nothing_added : (event : PairEvent) (log : PairLog) (end : End) → AddsNothing event log end
-    → AddsToLog event log end None None none_lost
+    → AddsToLog event log end None None none_lost IsNoProbe
 nothing_added event log end adds = record {
   hands_is = λ measure space. adds.hands_same measure space ∙ zero_plus _;
   sends_is = λ measure space. adds.sends_same measure space ∙ zero_plus _;
   under_is = λ measure space n. ap (sum_of measure) (adds.under_same space n) ∙ zero_plus _;
   loses_is = adds.loses_none;
+  probes_is = unprobed event log end adds.probes_same adds.fails_same;
 }
 
 module _ {F Q R C K S M : Type 0} {f : _} {c : _} {q : _} {m : _} {r : _} where
@@ -83,9 +108,11 @@ module _ {F Q R C K S M : Type 0} {f : _} {c : _} {q : _} {m : _} {r : _} where
   -- the tie stays
   pub carries_on : (event : PairEvent) (log : PairLog) (end : End) (hands : Option (SpaceId × List ℕ))
       (sends : Option (SpaceId × ℕ × List ℕ)) (loses : SpaceId → List ℕ)
-      (old new : Sender F Q R C K S M (List ℕ) f c q m r × List Waiting) → AddsToLog event log end hands sends loses
-      → MovesItems hands sends loses old new → CarriesItems log end old → CarriesItems (event ∷ log) end new
-  carries_on event log end hands sends loses old new adds moves carried =
+      (IsProbed : Option (SpaceId × List ℕ) → Type 0)
+      (old new : Sender F Q R C K S M (List ℕ) f c q m r × List Waiting)
+      → AddsToLog event log end hands sends loses IsProbed → MovesItems hands sends loses IsProbed old new
+      → CarriesItems log end old → CarriesItems (event ∷ log) end new
+  carries_on event log end hands sends loses IsProbed old new adds moves carried =
       let own = moves.goes.from carried.own.config carried.own.start carried.own.random carried.own.past
       carried.own.came in
       record {
@@ -112,6 +139,13 @@ module _ {F Q R C K S M : Type 0} {f : _} {c : _} {q : _} {m : _} {r : _} where
             let three = ap (λ (numbers : List ℕ). sent_under end space measure numbers log) (adds.loses_is space) in
             let four = under_past end log old carried measure space (loses space) in
             omega (arith, one, two, three, four));
+        calm = λ space. (own.2.probed (λ items. 0) space (carried.calm space)).0;
+        probed = λ measure none space tracks. (
+            let more = adds.probes_is moves.probes moves.probed measure none space tracks in
+            let one = carried.probed measure none space more.0 in
+            let two = (own.2.probed measure space (carried.calm space)).1 in
+            let three = more.1 in omega (arith, one, two, three));
+        adds = carried.adds;
       }
 
   -- ---- nothing is lost
@@ -123,9 +157,10 @@ module _ {F Q R C K S M : Type 0} {f : _} {c : _} {q : _} {m : _} {r : _} where
   pub resends_all : (log : PairLog) (end : End) (here : Sender F Q R C K S M (List ℕ) f c q m r × List Waiting)
       (space : SpaceId) → CarriesItems log end here → KnowsDiscarded log end here.0 → IsIdle here.0 space
       → ((measure : List ℕ → ℕ) → waiting_in measure space here.1 ≡ 0) → was_discarded end space log ≡ false
-      → (measure : List ℕ → ℕ) → AddsItems measure → AddsContents q.words measure
+      → (measure : List ℕ → ℕ) → AddsItems measure
       → handed end measure space log + lost_in end space measure log ≤ sent_in end measure space log
-  resends_all log end here space carried known idle none keys measure adds contents =
+  resends_all log end here space carried known idle none keys measure adds =
+      let contents = carried.adds measure adds in
       let own = carried.own in
       let dropped = own.came.state_after.discarded space in
       let active = known space ∙ keys in
@@ -138,6 +173,27 @@ module _ {F Q R C K S M : Type 0} {f : _} {c : _} {q : _} {m : _} {r : _} where
       let lost = carried.lost measure space in
       let nothing = none measure in
       omega (arith, all, waits, empty, held, lost, nothing)
+
+  -- ---- nothing is sent again without cause
+
+  repeats_at : (log : PairLog) (end : End) (here : Sender F Q R C K S M (List ℕ) f c q m r × List Waiting)
+      → CarriesItems log end here → (space : SpaceId) → has_failed end space log ≡ false → (measure : List ℕ → ℕ)
+      → AddsItems measure → sent_in end measure space log
+      ≤ handed end measure space log + (lost_in end space measure log + probed_in end space measure log)
+  repeats_at log end here carried space tracks measure adds =
+      let own = carried.own in
+      let all = repeats_lost (begins f.built c.words (queue_model q.contents q.words q.blank) own.config own.start
+      own.random) measure (carried.adds measure adds) space own.past own.came.replies in
+      let held = carried.held measure adds.none space in
+      let lost = carried.lost measure space in
+      let probed = carried.probed measure adds.none space tracks in
+      omega (arith, all, held, lost, probed)
+
+  pub repeats_with_cause : (log : PairLog)
+      (client server : Sender F Q R C K S M (List ℕ) f c q m r × List Waiting) → CarriesItems log Client client
+      → CarriesItems log Server server → RepeatsWithCause log
+  repeats_with_cause log client server own peer Client = repeats_at log Client client own
+  repeats_with_cause log client server own peer Server = repeats_at log Server server peer
 
   -- ---- one endpoint makes a step, the other does nothing
 
@@ -155,7 +211,7 @@ module _ {F Q R C K S M : Type 0} {f : _} {c : _} {q : _} {m : _} {r : _} where
       (old new : Sender F Q R C K S M (List ℕ) f c q m r × List Waiting) → AddsNothing event log end → new ≡ old
       → CarriesItems log end old → CarriesItems (event ∷ log) end new
   idle_on event log end old new adds same =
-      carries_on event log end None None none_lost old new (nothing_added event log end adds)
+      carries_on event log end None None none_lost IsNoProbe old new (nothing_added event log end adds)
       (same_moves old.0 new.0 old.1 new.1
       (ap (λ (it : Sender F Q R C K S M (List ℕ) f c q m r × List Waiting). it.0) same)
       (ap (λ (it : Sender F Q R C K S M (List ℕ) f c q m r × List Waiting). it.1) same))
@@ -167,27 +223,28 @@ module _ {F Q R C K S M : Type 0} {f : _} {c : _} {q : _} {m : _} {r : _} where
   HoldsOf Server Holds client server = Holds server
 
   pub items_turn : (end : End) (hands : Option (SpaceId × List ℕ)) (sends : Option (SpaceId × ℕ × List ℕ))
-      (loses : SpaceId → List ℕ) (step : PairStep) (answer : Result PairAnswer SenderError)
+      (loses : SpaceId → List ℕ) (IsProbed : Option (SpaceId × List ℕ) → Type 0) (step : PairStep)
+      (answer : Result PairAnswer SenderError)
       (Also : Sender F Q R C K S M (List ℕ) f c q m r × List Waiting → Type 0)
       → ((log : PairLog) (here : Sender F Q R C K S M (List ℕ) f c q m r × List Waiting) → Also here
       → KnowsDiscarded log end here.0 → CarriesItems log end here → ResendsWhatIsLost log (step, answer))
-      → ((log : PairLog) → AddsToLog (step, answer) log end hands sends loses)
+      → ((log : PairLog) → AddsToLog (step, answer) log end hands sends loses IsProbed)
       → ((log : PairLog) → AddsNothing (step, answer) log (other_end end))
       → (client server client_after server_after : Sender F Q R C K S M (List ℕ) f c q m r × List Waiting)
       → HoldsOf end Also client server
-      → TurnsAt end (MovesItems hands sends loses) client server client_after server_after
+      → TurnsAt end (MovesItems hands sends loses IsProbed) client server client_after server_after
       → ItemsKept client server step answer client_after server_after
-  items_turn Client hands sends loses step answer Also resends adds idle client server client_after server_after also
-      turns log own_keys peer_keys own peer = (
+  items_turn Client hands sends loses IsProbed step answer Also resends adds idle client server client_after
+      server_after also turns log own_keys peer_keys own peer = (
         resends log client also own_keys own,
-        carries_on (step, answer) log Client hands sends loses client client_after (adds log) turns.0 own,
+        carries_on (step, answer) log Client hands sends loses IsProbed client client_after (adds log) turns.0 own,
         idle_on (step, answer) log Server server server_after (idle log) turns.1 peer,
       )
-  items_turn Server hands sends loses step answer Also resends adds idle client server client_after server_after also
-      turns log own_keys peer_keys own peer = (
+  items_turn Server hands sends loses IsProbed step answer Also resends adds idle client server client_after
+      server_after also turns log own_keys peer_keys own peer = (
         resends log server also peer_keys peer,
         idle_on (step, answer) log Client client client_after (idle log) turns.1 own,
-        carries_on (step, answer) log Server hands sends loses server server_after (adds log) turns.0 peer,
+        carries_on (step, answer) log Server hands sends loses IsProbed server server_after (adds log) turns.0 peer,
       )
 
   -- nothing else is known
@@ -211,18 +268,46 @@ module _ (log : PairLog) (space : SpaceId) (now size n : ℕ) (items : Vec ℕ) 
   under_if true measure more = refl
   under_if false measure more = zero_plus _
 
+  -- what a probe took is sent
+  and_true : (b : Bool) (amount : ℕ) → part (b && true) amount ≡ part b amount
+  and_true true amount = refl
+  and_true false amount = refl
+
+  probed_most : (probe : Bool) (probes : Option (SpaceId × List ℕ)) → IsProbeWith probe space items.items probes
+      → (measure : List ℕ → ℕ) → measure [] ≡ 0 → (there : SpaceId)
+      → amount_of measure there probes ≤ part (same_space space there && probe) (measure items.items)
+  probed_most probe None is measure zero there = omega arith
+  probed_most true (Some (at, list)) (is, inl none) measure zero there =
+      let empty = empty_part (same_space at there) (measure list) (ap measure none ∙ zero) in omega (arith, empty)
+  probed_most true (Some (at, list)) (is, inr same) measure zero there =
+      let one = ap (λ (s : SpaceId). part (same_space s there) (measure list)) is in
+      let two = ap (λ (these : List ℕ). part (same_space space there) (measure these)) same in
+      let three = and_true (same_space space there) (measure items.items) in
+      omega (arith, one, two, three)
+  probed_most false (Some one) never measure zero there = absurd never
+
+  probed_more : (probes : Option (SpaceId × List ℕ))
+      → IsProbeWith (is_probe eliciting window) space items.items probes → (measure : List ℕ → ℕ) → measure [] ≡ 0
+      → (there : SpaceId) (more : ℕ) → amount_of measure there probes + more
+      ≤ part (same_space space there && is_probe eliciting window) (measure items.items) + more
+  probed_more probes is measure zero there more =
+      let most = probed_most (is_probe eliciting window) probes is measure zero there in omega (arith, most)
+
   sent_adds : (end : End) → AddsToLog (goes_out end) log end None (Some (space, n, items.items)) none_lost
+      (IsProbeWith (is_probe eliciting window) space items.items)
   sent_adds Client = record {
     hands_is = λ measure there. zero_plus _;
     sends_is = λ measure there. refl;
     under_is = λ measure there k. under_if (same_space space there && n == k) measure (sends_of Client there k log);
     loses_is = λ there. refl;
+    probes_is = λ probes is measure zero there tracks. (tracks, probed_more probes is measure zero there _);
   }
   sent_adds Server = record {
     hands_is = λ measure there. zero_plus _;
     sends_is = λ measure there. refl;
     under_is = λ measure there k. under_if (same_space space there && n == k) measure (sends_of Server there k log);
     loses_is = λ there. refl;
+    probes_is = λ probes is measure zero there tracks. (tracks, probed_more probes is measure zero there _);
   }
 
   sent_adds_not : (end : End) → AddsNothing (goes_out end) log (other_end end)
@@ -231,24 +316,95 @@ module _ (log : PairLog) (space : SpaceId) (now size n : ℕ) (items : Vec ℕ) 
     sends_same = λ measure there. sym (zero_plus (sent_in Server measure there log));
     under_same = λ there k. refl;
     loses_none = λ there. refl;
+    probes_same = λ measure there. sym (zero_plus (probed_in Server there measure log));
+    fails_same = λ there. refl;
   }
   sent_adds_not Server = record {
     hands_same = λ measure there. refl;
     sends_same = λ measure there. sym (zero_plus (sent_in Client measure there log));
     under_same = λ there k. refl;
     loses_none = λ there. refl;
+    probes_same = λ measure there. sym (zero_plus (probed_in Client there measure log));
+    fails_same = λ there. refl;
+  }
+
+-- ---- a packet cannot be tracked
+
+module _ (log : PairLog) (space : SpaceId) (now size : ℕ) (refusal : SenderError) where
+  abbrev fails_there : End → PairEvent
+  fails_there end = (Send end space now size, Ok (Failed refusal))
+
+  -- a probe of another space took nothing here
+  elsewhere : (probes : Option (SpaceId × List ℕ)) → IsProbeIn space probes → (measure : List ℕ → ℕ) (there : SpaceId)
+      → same_space space there ≡ false → amount_of measure there probes ≡ 0
+  elsewhere None is measure there apart = refl
+  elsewhere (Some (at, list)) is measure there apart =
+      let one = ap (λ (s : SpaceId). part (same_space s there) (measure list)) is in
+      let two = ap (λ (b : Bool). part b (measure list)) apart in
+      omega (arith, one, two)
+
+  fails_there_only : (failed : Bool) (more : ℕ) (probes : Option (SpaceId × List ℕ)) → IsProbeIn space probes
+      → (measure : List ℕ → ℕ) (there : SpaceId) → (same_space space there || failed) ≡ false
+      → (failed ≡ false) × (amount_of measure there probes + more ≤ more)
+  fails_there_only failed more probes is measure there tracks =
+      let none = elsewhere probes is measure there (or_first (same_space space there) failed tracks) in
+      (or_second (same_space space there) failed tracks, omega (arith, none))
+
+  fails_adds : (end : End) → AddsToLog (fails_there end) log end None None none_lost (IsProbeIn space)
+  fails_adds Client = record {
+    hands_is = λ measure there. zero_plus _;
+    sends_is = λ measure there. zero_plus _;
+    under_is = λ measure there k. zero_plus _;
+    loses_is = λ there. refl;
+    probes_is = λ probes is measure zero there. fails_there_only (has_failed Client there log)
+        (probed_in Client there measure log) probes is measure there;
+  }
+  fails_adds Server = record {
+    hands_is = λ measure there. zero_plus _;
+    sends_is = λ measure there. zero_plus _;
+    under_is = λ measure there k. zero_plus _;
+    loses_is = λ there. refl;
+    probes_is = λ probes is measure zero there. fails_there_only (has_failed Server there log)
+        (probed_in Server there measure log) probes is measure there;
+  }
+
+  fails_adds_not : (end : End) → AddsNothing (fails_there end) log (other_end end)
+  fails_adds_not Client = record {
+    hands_same = λ measure there. refl;
+    sends_same = λ measure there. refl;
+    under_same = λ there k. refl;
+    loses_none = λ there. refl;
+    probes_same = λ measure there. refl;
+    fails_same = λ there. refl;
+  }
+  fails_adds_not Server = record {
+    hands_same = λ measure there. refl;
+    sends_same = λ measure there. refl;
+    under_same = λ there k. refl;
+    loses_none = λ there. refl;
+    probes_same = λ measure there. refl;
+    fails_same = λ there. refl;
   }
 
 -- ---- a step by which nothing is sent and nothing arrives
 
+-- a packet was tracked, or none was sent
+abbrev pub IsTracked : PairEvent → Type 0
+IsTracked (step, Ok (Failed refusal)) = ⊥
+IsTracked event = Unit {0}
+
 send_idle : (log : PairLog) (at end : End) (space : SpaceId) (now size : ℕ) (answer : Result PairAnswer SenderError)
-    → IsNoPacket (Send end space now size, answer) → AddsNothing (Send end space now size, answer) log at
-send_idle log at end space now size (Ok (Sent n items eliciting window ack)) none = absurd none
-send_idle log at end space now size answer none = record {
+    → IsNoPacket (Send end space now size, answer) → IsTracked (Send end space now size, answer)
+    → AddsNothing (Send end space now size, answer) log at
+send_idle log at end space now size (Ok (Sent n items eliciting window ack)) none tracks = absurd none
+send_idle log at end space now size (Ok (Failed refusal)) none tracks = absurd tracks
+send_idle log at end space now size answer none tracks = record {
   hands_same = λ measure there. refl;
   sends_same = λ measure there. refl;
   under_same = λ there k. refl;
   loses_none = λ there. refl;
+  probes_same = λ measure there. refl;
+  fails_same = λ there. refl;
 }
 
 arrive_idle : (log : PairLog) (end : End) (at now : ℕ) (answer : Result PairAnswer SenderError)
@@ -259,13 +415,16 @@ arrive_idle log end at now answer none = record {
   sends_same = λ measure there. refl;
   under_same = λ there k. refl;
   loses_none = λ there. refl;
+  probes_same = λ measure there. refl;
+  fails_same = λ there. refl;
 }
 
 step_idle : (log : PairLog) (end : End) (step : PairStep) (answer : Result PairAnswer SenderError)
-    → IsNoPacket (step, answer) → IsNotLocal step → AddsNothing (step, answer) log end
-step_idle log end (Send at space now size) answer none other = send_idle log end at space now size answer none
-step_idle log end (Arrive at now) answer none other = arrive_idle log end at now answer none
-step_idle log end (Local at step) answer none other = absurd other
+    → IsNoPacket (step, answer) → IsNotLocal step → IsTracked (step, answer) → AddsNothing (step, answer) log end
+step_idle log end (Send at space now size) answer none other tracks =
+    send_idle log end at space now size answer none tracks
+step_idle log end (Arrive at now) answer none other tracks = arrive_idle log end at now answer none
+step_idle log end (Local at step) answer none other tracks = absurd other
 
 -- ---- a packet arrives
 
@@ -289,12 +448,14 @@ module _ (log : PairLog) (at now : ℕ) (space : SpaceId) (n size : ℕ) where
   lost_not_there to (Dropped refusal) there = refl
 
   arrived_adds : (to : End) (fate : Fate) → AddsToLog (Arrive at now, Ok (Arrived to space n size fate)) log to None
-      None (lost_by_fate space (Ok fate))
+      None (lost_by_fate space (Ok fate)) IsNoProbe
   arrived_adds to fate = record {
     hands_is = λ measure there. zero_plus _;
     sends_is = λ measure there. zero_plus _;
     under_is = λ measure there k. zero_plus _;
     loses_is = lost_at_it to fate;
+    probes_is = unprobed (Arrive at now, Ok (Arrived to space n size fate)) log to (λ measure there. refl)
+        (λ there. refl);
   }
 
   arrived_adds_not : (to : End) (fate : Fate)
@@ -304,6 +465,8 @@ module _ (log : PairLog) (at now : ℕ) (space : SpaceId) (n size : ℕ) where
     sends_same = λ measure there. refl;
     under_same = λ there k. refl;
     loses_none = lost_not_there to fate;
+    probes_same = λ measure there. refl;
+    fails_same = λ there. refl;
   }
 
 -- ---- something happens at one endpoint
@@ -360,35 +523,49 @@ module _ {F Q R C K S M : Type 0} {f : _} {c : _} {q : _} {m : _} {r : _} where
   pub sent_items : (end : End) (space : SpaceId) (now size n : ℕ) (items : Vec ℕ) (eliciting : Bool)
       (window : Option ℕ) (ack : SentAck)
       (client server client_after server_after : Sender F Q R C K S M (List ℕ) f c q m r × List Waiting)
-      → TurnsAt end (MovesItems None (Some (space, n, items.items)) none_lost) client server client_after server_after
+      → TurnsAt end (MovesItems None (Some (space, n, items.items)) none_lost
+      (IsProbeWith (is_probe eliciting window) space items.items)) client server client_after server_after
       → ItemsKept client server (Send end space now size) (Ok (Sent n items eliciting window ack)) client_after
       server_after
   sent_items end space now size n items eliciting window ack client server client_after server_after =
-      items_turn end None (Some (space, n, items.items)) none_lost (Send end space now size)
+      items_turn end None (Some (space, n, items.items)) none_lost
+      (IsProbeWith (is_probe eliciting window) space items.items) (Send end space now size)
       (Ok (Sent n items eliciting window ack)) Any (λ log here also known carried. tt)
       (λ log. sent_adds log space now size n items eliciting window ack end)
       (λ log. sent_adds_not log space now size n items eliciting window ack end) client server client_after
       server_after (any_of end client server)
 
+  -- a packet cannot be tracked
+  pub failed_items : (end : End) (space : SpaceId) (now size : ℕ) (refusal : SenderError)
+      (client server client_after server_after : Sender F Q R C K S M (List ℕ) f c q m r × List Waiting)
+      → TurnsAt end (MovesBack space) client server client_after server_after
+      → ItemsKept client server (Send end space now size) (Ok (Failed refusal)) client_after server_after
+  failed_items end space now size refusal client server client_after server_after =
+      items_turn end None None none_lost (IsProbeIn space) (Send end space now size) (Ok (Failed refusal)) Any
+      (λ log here also known carried. tt) (λ log. fails_adds log space now size refusal end)
+      (λ log. fails_adds_not log space now size refusal end) client server client_after server_after
+      (any_of end client server)
+
   -- nothing is sent, and nothing arrives
   pub idle_items : (end : End) (step : PairStep) (answer : Result PairAnswer SenderError)
       (client server client_after server_after : Sender F Q R C K S M (List ℕ) f c q m r × List Waiting)
-      → IsNoPacket (step, answer) → IsNotLocal step → ((log : PairLog) → ResendsWhatIsLost log (step, answer))
+      → IsNoPacket (step, answer) → IsNotLocal step → IsTracked (step, answer)
+      → ((log : PairLog) → ResendsWhatIsLost log (step, answer))
       → TurnsAt end MovesNone client server client_after server_after
       → ItemsKept client server step answer client_after server_after
-  idle_items end step answer client server client_after server_after none other resends =
-      items_turn end None None none_lost step answer Any (λ log here also known carried. resends log)
-      (λ log. nothing_added (step, answer) log end (step_idle log end step answer none other))
-      (λ log. step_idle log (other_end end) step answer none other) client server client_after server_after
+  idle_items end step answer client server client_after server_after none other tracks resends =
+      items_turn end None None none_lost IsNoProbe step answer Any (λ log here also known carried. resends log)
+      (λ log. nothing_added (step, answer) log end (step_idle log end step answer none other tracks))
+      (λ log. step_idle log (other_end end) step answer none other tracks) client server client_after server_after
       (any_of end client server)
 
   -- nothing at all happens
   pub same_items : (step : PairStep) (answer : Result PairAnswer SenderError)
       (client server : Sender F Q R C K S M (List ℕ) f c q m r × List Waiting)
-      → IsNoPacket (step, answer) → IsNotLocal step → ((log : PairLog) → ResendsWhatIsLost log (step, answer))
-      → ItemsKept client server step answer client server
-  same_items step answer client server none other resends =
-      idle_items Client step answer client server client server none other resends
+      → IsNoPacket (step, answer) → IsNotLocal step → IsTracked (step, answer)
+      → ((log : PairLog) → ResendsWhatIsLost log (step, answer)) → ItemsKept client server step answer client server
+  same_items step answer client server none other tracks resends =
+      idle_items Client step answer client server client server none other tracks resends
       (same_moves client.0 client.0 client.1 client.1 refl refl, refl)
 
   -- there is nothing to send
@@ -406,47 +583,51 @@ module _ {F Q R C K S M : Type 0} {f : _} {c : _} {q : _} {m : _} {r : _} where
 
   pub nothing_items : (end : End) (space : SpaceId) (now size : ℕ)
       (client server client_after server_after : Sender F Q R C K S M (List ℕ) f c q m r × List Waiting)
-      → ((measure : List ℕ → ℕ) → AddsItems measure → AddsContents q.words measure)
       → HoldsAt end (PermitsOutcome space now size (Ok outgoing.Nothing)) client.0 server.0
       → TurnsAt end (λ (old new : List Waiting). LosesNone old new
       × ((measure : List ℕ → ℕ) → waiting_in measure space old ≡ 0)) client.1 server.1 client_after.1 server_after.1
       → TurnsAt end MovesNone client server client_after server_after
       → ItemsKept client server (Send end space now size) (Ok Nothing) client_after server_after
-  nothing_items end space now size client server client_after server_after adds idle waits =
-      items_turn end None None none_lost (Send end space now size) (Ok Nothing) (IsIdleHere space)
+  nothing_items end space now size client server client_after server_after idle waits =
+      items_turn end None None none_lost IsNoProbe (Send end space now size) (Ok Nothing) (IsIdleHere space)
       (λ log here also known carried keys measure items. resends_all log end here space carried known also.0 also.1 keys
-      measure items (adds measure items))
+      measure items)
       (λ log. nothing_added (Send end space now size, Ok Nothing) log end
-      (step_idle log end (Send end space now size) (Ok Nothing) tt tt))
-      (λ log. step_idle log (other_end end) (Send end space now size) (Ok Nothing) tt tt) client server client_after
+      (step_idle log end (Send end space now size) (Ok Nothing) tt tt tt))
+      (λ log. step_idle log (other_end end) (Send end space now size) (Ok Nothing) tt tt tt) client server client_after
       server_after (idle_here end space now size client server client_after server_after idle waits)
 
   pub arrived_items : (to : End) (at now : ℕ) (space : SpaceId) (n size : ℕ) (fate : Fate)
       (client server client_after server_after : Sender F Q R C K S M (List ℕ) f c q m r × List Waiting)
-      → TurnsAt to (MovesItems None None (lost_by_fate space (Ok fate))) client server client_after server_after
-      → ItemsKept client server (Arrive at now) (Ok (Arrived to space n size fate)) client_after server_after
+      → TurnsAt to (MovesItems None None (lost_by_fate space (Ok fate)) IsNoProbe) client server client_after
+      server_after → ItemsKept client server (Arrive at now) (Ok (Arrived to space n size fate)) client_after
+      server_after
   arrived_items to at now space n size fate client server client_after server_after =
-      items_turn to None None (lost_by_fate space (Ok fate)) (Arrive at now) (Ok (Arrived to space n size fate)) Any
-      (λ log here also known carried. tt) (λ log. arrived_adds log at now space n size to fate)
+      items_turn to None None (lost_by_fate space (Ok fate)) IsNoProbe (Arrive at now)
+      (Ok (Arrived to space n size fate)) Any (λ log here also known carried. tt)
+      (λ log. arrived_adds log at now space n size to fate)
       (λ log. arrived_adds_not log at now space n size to fate) client server client_after server_after
       (any_of to client server)
 
   pub local_items : (end : End) (step : LocalStep) (answer : Result PairAnswer SenderError)
       (client server client_after server_after : Sender F Q R C K S M (List ℕ) f c q m r × List Waiting)
-      → TurnsAt end (MovesItems (hands_by step answer) None (lost_by_local step answer)) client server client_after
-      server_after → ItemsKept client server (Local end step) answer client_after server_after
+      → TurnsAt end (MovesItems (hands_by step answer) None (lost_by_local step answer) IsNoProbe) client server
+      client_after server_after → ItemsKept client server (Local end step) answer client_after server_after
   local_items end step answer client server client_after server_after =
-      items_turn end (hands_by step answer) None (lost_by_local step answer) (Local end step) answer Any
+      items_turn end (hands_by step answer) None (lost_by_local step answer) IsNoProbe (Local end step) answer Any
       (λ log here also known carried. tt)
       (λ log. record {
         hands_is = passes_is log end step answer;
         sends_is = λ measure there. zero_plus _;
         under_is = λ measure there k. zero_plus _;
         loses_is = local_is end step answer;
+        probes_is = unprobed (Local end step, answer) log end (λ measure there. refl) (λ there. refl);
       })
       (λ log. record {
         hands_same = passes_not log end step answer;
         sends_same = λ measure there. refl;
         under_same = λ there k. refl;
         loses_none = local_not end step answer;
+        probes_same = λ measure there. refl;
+        fails_same = λ there. refl;
       }) client server client_after server_after (any_of end client server)

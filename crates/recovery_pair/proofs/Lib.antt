@@ -1,4 +1,5 @@
 pub mod BoundLaws
+pub mod DeadlockLaws
 pub mod FlightLaws
 pub mod FrameLaws
 pub mod GoingLaws
@@ -8,16 +9,21 @@ pub mod ItemMoves
 pub mod ItemRows
 pub mod ItemTies
 pub mod LargestLaws
+pub mod LeastLaws
 pub mod LogLaws
 pub mod NewLaws
+pub mod NewlyLaws
 pub mod PacketLaws
 pub mod PairRows
 pub mod PermitLaws
 pub mod QueueLaws
 pub mod QuietLaws
+pub mod RepeatLaws
 pub mod RequeueLaws
 pub mod RisingLaws
 pub mod RunLaws
+pub mod SampleLaws
+pub mod SampleRows
 pub mod StepTies
 pub mod TieLaws
 pub mod TimedLaws

@@ -18,9 +18,9 @@ use Rattle.recovery_pair.specs.declared.steps.PairAnswer.TheVariants.{Arrived, D
 use Rattle.recovery_pair.specs.declared.steps.PairStep.{PairStep}
 use Rattle.recovery_pair.specs.declared.steps.SentAck.{SentAck}
 use Rattle.recovery_pair.specs.declared.steps.PairStep.TheVariants.{Arrive, Local, Send}
-use Rattle.recovery_pair.specs.Logs.{PairEvent, PairLog, bytes_arrived, bytes_sent, has_validated, numbers_at, other_end, time_sent, was_discarded}
+use Rattle.recovery_pair.specs.Logs.{PairEvent, PairLog, bytes_arrived, bytes_sent, has_validated, is_eliciting, numbers_at, other_end, time_sent, was_discarded}
 use Rattle.recovery_pair.specs.Flights.{Numbers, counted_if, ends_by_timer, flight_of, no_numbers as none_gone}
-use Rattle.recovery_pair.specs.Pasts.{GoesOn, EndTurn, added, ending, endings_by_fate, hearing, is_of, losing, new_by, packet_leaving, quiet, with_largest, with_number, with_time}
+use Rattle.recovery_pair.specs.Pasts.{GoesOn, EndTurn, added, ending, endings_by_fate, hearing, is_of, losing, new_by, packet_leaving, quiet, with_eliciting, with_largest, with_number, with_time}
 use Rattle.recovery_pair.specs.Promises.Delays.{largest_new}
 use Rattle.recovery_pair.specs.Tied.{IsLogged, validated_first}
 use Rattle.recovery_pair.specs.Turns.{local_turn, reply_of}
@@ -44,6 +44,8 @@ pub record Adds (turn : EndTurn) (end : End) (event : PairEvent) (log : PairLog)
       ≡ with_largest space turn.heard turn.at (largest_new end space log)
   pub times : (space : SpaceId) (n : ℕ) → time_sent end space n (event ∷ log)
       ≡ with_time space n turn.sends (time_sent end space n log)
+  pub elicits : (space : SpaceId) (n : ℕ) → is_eliciting end space n (event ∷ log)
+      ≡ with_eliciting space n turn.sends (is_eliciting end space n log)
   pub flight : (gone : Numbers) → all_flight end gone (event ∷ log)
       ≤ added turn.counts gone + all_flight end (λ space n. turn.ends space n || gone space n) log
 
@@ -64,11 +66,15 @@ logged_on validated log event end first turn past after adds goes logged = recor
       ∙ sym (adds.largest space);
   times = λ space n. goes.timed space n ∙ ap (with_time space n turn.sends) (logged.times space n)
       ∙ sym (adds.times space n);
+  elicits = λ space n. goes.elicited space n ∙ ap (with_eliciting space n turn.sends) (logged.elicits space n)
+      ∙ sym (adds.elicits space n);
+  paths = goes.paths ∙ logged.paths;
   flight = λ gone. (
       let one = goes.flight gone in
       let two = adds.flight gone in
       let old = logged.flight (λ space n. turn.ends space n || gone space n) in
       omega (arith, one, two, old));
+  silent = let one = goes.silent in let old = logged.silent in omega (arith, one, old);
 }
 
 none_counted : (rest : ℕ) → 0 + rest ≤ 0 + rest
@@ -105,7 +111,7 @@ module _ (log : PairLog) (there : SpaceId) (now size n : ℕ) (items : Vec ℕ) 
   flight_same Server gone = none_counted (all_flight Client gone log)
 
   time_here : (end : End) (space : SpaceId) (m : ℕ) → time_sent end space m (departure end ∷ log)
-      ≡ with_time space m (Some (there, n, now)) (time_sent end space m log)
+      ≡ with_time space m (Some (there, n, now, eliciting)) (time_sent end space m log)
   time_here Client space m = refl
   time_here Server space m = refl
 
@@ -114,8 +120,18 @@ module _ (log : PairLog) (there : SpaceId) (now size n : ℕ) (items : Vec ℕ) 
   time_there Client space m = refl
   time_there Server space m = refl
 
+  elicits_here : (end : End) (space : SpaceId) (m : ℕ) → is_eliciting end space m (departure end ∷ log)
+      ≡ with_eliciting space m (Some (there, n, now, eliciting)) (is_eliciting end space m log)
+  elicits_here Client space m = refl
+  elicits_here Server space m = refl
+
+  elicits_there : (end : End) (space : SpaceId) (m : ℕ)
+      → is_eliciting (other_end end) space m (departure end ∷ log) ≡ is_eliciting (other_end end) space m log
+  elicits_there Client space m = refl
+  elicits_there Server space m = refl
+
   pub sending_adds : (end : End) (largest : Option ℕ)
-      → Adds (packet_leaving size (counted_if eliciting size) there n largest now) end (departure end) log
+      → Adds (packet_leaving size (counted_if eliciting size) eliciting there n largest now) end (departure end) log
   sending_adds end largest = record {
     came = λ space. refl;
     discarded = λ space. refl;
@@ -124,6 +140,7 @@ module _ (log : PairLog) (there : SpaceId) (now size n : ℕ) (items : Vec ℕ) 
     left = at_most _ _ (sent_more end);
     largest = λ space. refl;
     times = time_here end;
+    elicits = elicits_here end;
     flight = flight_more end;
   }
 
@@ -136,6 +153,7 @@ module _ (log : PairLog) (there : SpaceId) (now size n : ℕ) (items : Vec ℕ) 
     left = no_more _ _ (sent_same end);
     largest = λ space. refl;
     times = time_there end;
+    elicits = elicits_there end;
     flight = flight_same end;
   }
 
@@ -211,6 +229,7 @@ module _ (log : PairLog) (at now : ℕ) (there : SpaceId) (n size : ℕ) where
     left = no_more (bytes_sent to log) (bytes_sent to log) refl;
     largest = λ space. largest_here space to fate;
     times = λ space m. refl;
+    elicits = λ space m. refl;
     flight = λ gone. no_more _ _ (ended_here gone to fate);
   }
 
@@ -223,6 +242,7 @@ module _ (log : PairLog) (at now : ℕ) (there : SpaceId) (n size : ℕ) where
     left = no_more (bytes_sent (other_end to) log) (bytes_sent (other_end to) log) refl;
     largest = λ space. largest_there space to fate;
     times = λ space m. refl;
+    elicits = λ space m. refl;
     flight = λ gone. no_more _ _ (ended_there gone to fate);
   }
 
@@ -261,6 +281,11 @@ module _ (log : PairLog) (end : End) where
   no_time (Send from there now size, Ok (Sent number items eliciting window delay)) none space n = absurd none
   no_time event none space n = refl
 
+  no_elicits : (event : PairEvent) → IsNoPacket event → (space : SpaceId) (n : ℕ)
+      → is_eliciting end space n (event ∷ log) ≡ is_eliciting end space n log
+  no_elicits (Send from there now size, Ok (Sent number items eliciting window delay)) none space n = absurd none
+  no_elicits event none space n = refl
+
   none_ended : (step : PairStep) (answer : Result PairAnswer SenderError) → IsNoPacket (step, answer)
       → IsNotLocal step → (gone : Numbers) → all_flight end gone ((step, answer) ∷ log) ≡ all_flight end gone log
   none_ended (Local at step) answer none other gone = absurd other
@@ -288,6 +313,7 @@ module _ (log : PairLog) (end : End) where
     left = no_more _ _ (none_left (step, answer) none);
     largest = no_largest step answer none;
     times = no_time (step, answer) none;
+    elicits = no_elicits (step, answer) none;
     flight = λ gone. no_more _ _ (none_ended step answer none other gone);
   }
 
@@ -407,10 +433,15 @@ module _ (log : PairLog) where
   with_none space number before none =
       subst (λ (one : Option (SpaceId × ℕ)). with_number space one before ≡ before) (sym none) refl
 
-  untimed : (space : SpaceId) (n : ℕ) (sends : Option (SpaceId × ℕ × ℕ)) (before : ℕ) → sends ≡ None
+  untimed : (space : SpaceId) (n : ℕ) (sends : Option (SpaceId × ℕ × ℕ × Bool)) (before : ℕ) → sends ≡ None
       → with_time space n sends before ≡ before
   untimed space n sends before none =
-      subst (λ (one : Option (SpaceId × ℕ × ℕ)). with_time space n one before ≡ before) (sym none) refl
+      subst (λ (one : Option (SpaceId × ℕ × ℕ × Bool)). with_time space n one before ≡ before) (sym none) refl
+
+  unelicited : (space : SpaceId) (n : ℕ) (sends : Option (SpaceId × ℕ × ℕ × Bool)) (before : Bool) → sends ≡ None
+      → with_eliciting space n sends before ≡ before
+  unelicited space n sends before none =
+      subst (λ (one : Option (SpaceId × ℕ × ℕ × Bool)). with_eliciting space n one before ≡ before) (sym none) refl
 
   pub local_adds : (end : End) (step : LocalStep) (answer : Result PairAnswer SenderError)
       → IsNoPacket (Local end step, answer) → Adds (local_turn step answer) end (Local end step, answer) log
@@ -430,6 +461,8 @@ module _ (log : PairLog) where
             (largest_new end space log) moves.heard);
         times = λ space n. no_time log end (Local end step, answer) none space n
             ∙ sym (untimed space n (local_turn step answer).sends (time_sent end space n log) moves.sends);
+        elicits = λ space n. no_elicits log end (Local end step, answer) none space n
+            ∙ sym (unelicited space n (local_turn step answer).sends (is_eliciting end space n log) moves.sends);
         flight = λ gone. (
             let none_added = added_none (local_turn step answer).counts gone moves.counts in
             let same = ends_here end step answer none gone in omega (arith, none_added, same));
@@ -445,5 +478,6 @@ module _ (log : PairLog) where
     left = no_more _ _ (none_left log (other_end end) (Local end step, answer) none);
     largest = no_largest log (other_end end) (Local end step) answer none;
     times = no_time log (other_end end) (Local end step, answer) none;
+    elicits = no_elicits log (other_end end) (Local end step, answer) none;
     flight = λ gone. no_more _ _ (ends_there end step answer none gone);
   }

@@ -14,8 +14,9 @@ use Rattle.recovery_sender.specs.declared.sender.Sender.{Sender}
 use Rattle.recovery_pair.specs.declared.endpoint.Waiting.{Waiting}
 use Rattle.recovery_pair.specs.declared.steps.End.{End}
 use Rattle.recovery_pair.specs.declared.steps.End.TheVariants.{Client, Server}
-use Rattle.recovery_pair.specs.Carried.{CarriesItems}
+use Rattle.recovery_pair.specs.Carried.{AddsContents, CarriesItems}
 use Rattle.recovery_pair.specs.Pasts.{GoesOnQuietly, quiet}
+use Rattle.recovery_pair.specs.Promises.Resends.{AddsItems}
 use Rattle.recovery_pair.specs.Tied.{Flows, IsLogged, IsTied, validated_first}
 use Rattle.recovery_pair.proofs.RisingLaws.{rises_new}
 use Rattle.recovery_pair.specs.Waits.{waiting_in}
@@ -50,7 +51,10 @@ new_logged validated end first past same goes = record {
   left = goes.left;
   largest = goes.largest;
   times = goes.timed;
+  elicits = goes.elicited;
+  paths = goes.paths;
   flight = λ gone. omega arith;
+  silent = goes.silent;
 }
 
 client_first : (first validated : Bool) → (first || true) ≡ true
@@ -82,8 +86,10 @@ module _ {F Q R C K S M P : Type 0} {f : _} {c : _} {q : _} {m : _} {r : _} wher
 module _ {F Q R C K S M : Type 0} {f : _} {c : _} {q : _} {m : _} {r : _} where
   carries_first : (side : Side) (config : RecoveryConfig F) (start : ℕ) (random : Stream)
       (sender : Sender F Q R C K S M (List ℕ) f c q m r) → IsNewSender side config start random sender → (end : End)
-      (waits : List Waiting) → waits ≡ [] → CarriesItems [] end (sender, waits)
-  carries_first side config start random sender new end waits none =
+      (waits : List Waiting) → waits ≡ []
+      → ((measure : List ℕ → ℕ) → AddsItems measure → AddsContents q.words measure)
+      → CarriesItems [] end (sender, waits)
+  carries_first side config start random sender new end waits none adds =
       let goes = call_carries [] _ new.made sender new.does tt in
       let behind = goes.from (config_of side config) (start - 1) random [] new.came in
       record {
@@ -99,14 +105,19 @@ module _ {F Q R C K S M : Type 0} {f : _} {c : _} {q : _} {m : _} {r : _} where
             let two = ap (λ (all : List Waiting). waiting_in measure space all) none in omega (arith, one, two));
         sent = λ measure space n. (let one = behind.2.sent measure space n in omega (arith, one));
         lost = λ measure space. (let one = behind.2.lost measure space in omega (arith, one));
+        calm = λ space. (behind.2.probed (λ items. 0) space refl).0;
+        probed = λ measure zero_is space tracks. (
+            let one = (behind.2.probed measure space refl).1 in omega (arith, one));
+        adds = adds;
       }
 
   pub new_tied : (config others : RecoveryConfig F) (start : ℕ) (random words : Stream)
       (client server : Sender F Q R C K S M (List ℕ) f c q m r) → IsNewSender side.Client config start random client
       → IsNewSender side.Server others start words server → (client_waits server_waits : List Waiting)
       → client_waits ≡ [] → server_waits ≡ []
+      → ((measure : List ℕ → ℕ) → AddsItems measure → AddsContents q.words measure)
       → IsTied others.validated [] client server [] client_waits server_waits
-  new_tied config others start random words client server one two client_waits server_waits none no_more =
+  new_tied config others start random words client server one two client_waits server_waits none no_more adds =
       let own = starts_empty side.Client config start random client one in
       let peer = starts_empty side.Server others start words server two in
       record {
@@ -140,6 +151,6 @@ module _ {F Q R C K S M : Type 0} {f : _} {c : _} {q : _} {m : _} {r : _} where
             };
         own_waits = λ measure space. omega arith;
         peer_waits = λ measure space. omega arith;
-        own_items = carries_first side.Client config start random client one Client client_waits none;
-        peer_items = carries_first side.Server others start words server two Server server_waits no_more;
+        own_items = carries_first side.Client config start random client one Client client_waits none adds;
+        peer_items = carries_first side.Server others start words server two Server server_waits no_more adds;
       }

@@ -78,14 +78,15 @@ module _ {F Q R C K S M P : Type 0} {f : _} {c : _} {q : _} {m : _} {r : _} (eve
 module _ {F Q R C K S M P : Type 0} {f : _} {c : _} {q : _} {m : _} {r : _} where
   pub sends_by_call : (space : SpaceId) (now size : ℕ) (eliciting : Bool) (largest : Option ℕ) (queue : Q) (frames : M)
       (number : ℕ) (forgotten : Option ℕ) (kept : Variables) (old new : Sender F Q R C K S M P f c q m r)
+      → counted_if eliciting size ≡ size
       → CompletesCall (told (Send space now size eliciting largest queue frames) (Ok (Sent number forgotten)) ∷ []) kept
-      old new → Continues (SendsNumber 0 (counted_if eliciting size) space number largest now) old new
-  sends_by_call space now size eliciting largest queue frames number forgotten kept old new does =
+      old new → Continues (SendsNumber 0 (counted_if eliciting size) eliciting space number largest now) old new
+  sends_by_call space now size eliciting largest queue frames number forgotten kept old new counted does =
       call_goes (Send space now size eliciting largest queue frames) (Ok (Sent number forgotten))
-      (SendsNumber 0 (counted_if eliciting size) space number largest now)
-      (sends_then_quiet 0 (counted_if eliciting size) space number largest now) kept old new does
+      (SendsNumber 0 (counted_if eliciting size) eliciting space number largest now)
+      (sends_then_quiet 0 (counted_if eliciting size) eliciting space number largest now) kept old new does
       (λ config start random past keeps. sends_event past space now size eliciting largest queue frames number forgotten
-      keeps.numbers_increase keeps.one_outcome keeps.forgotten (it_goes space number))
+      keeps.numbers_increase keeps.one_outcome keeps.forgotten (it_goes space number) counted)
 
   -- ---- a packet is received
 

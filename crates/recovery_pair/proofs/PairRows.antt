@@ -1,11 +1,10 @@
 -- Worked rows of what is in flight, of ACK delays and of what is sent, computed: with the right log each promise holds,
 -- and with a wrong one it does not. Nothing rests on them.
-use Rattle.std.proofs.Common.{◌≡◌, ◌≤◌, ◌⊎◌, inl, inr, ℕ, true, false, [], ◌∷◌, Option, None, Some, Ok, Err, refl, arith}
+use Rattle.std.proofs.Common.{◌≡◌, ℕ, true, false, [], ◌∷◌, Option, None, Some, Ok, refl, arith}
 use Rattle.std.specs.Prelude.{if◌then◌else◌, nat_eq}
 use Rattle.std.specs.Set.{is_member}
 use Rattle.std.specs.Global.{Vec}
 use Rattle.recovery_base.specs.declared.below.SpaceId.TheVariants.{Data, Initial}
-use Rattle.recovery_losses.specs.Losses.{IsOneOf}
 use Rattle.recovery_sender.specs.declared.sender.acks.Acknowledged.{Acknowledged}
 use Rattle.recovery_sender.specs.declared.sender.losses.Losses.{Losses}
 use Rattle.recovery_sender.specs.declared.sender.probes.Timeout.TheVariants.{Lost}
@@ -17,12 +16,11 @@ use Rattle.recovery_pair.specs.declared.steps.LocalStep.TheVariants.{Discard, Ex
 use Rattle.recovery_pair.specs.declared.steps.PairAnswer.TheVariants.{Arrived, Done, Expired, Nothing, Sent}
 use Rattle.recovery_pair.specs.declared.steps.PairStep.TheVariants.{Arrive, Local, Send}
 use Rattle.recovery_pair.specs.declared.steps.SentAck.{SentAck}
-use Rattle.recovery_pair.specs.Flights.{flight, is_lost_in}
+use Rattle.recovery_pair.specs.Flights.{flight}
 use Rattle.recovery_pair.specs.Logs.{PairEvent, PairLog}
 use Rattle.recovery_pair.specs.Promises.Delays.{ReportsDelay}
 use Rattle.recovery_pair.specs.Promises.Excess.{ExceedsByProbes}
 use Rattle.recovery_pair.specs.Promises.LargestAcked.{AcksLargest}
-use Rattle.recovery_pair.specs.Promises.RttSamples.{SamplesRoundTrips}
 use Rattle.recovery_pair.specs.Promises.Sends.{SendsWhatWaits}
 use Rattle.recovery_pair.specs.Promises.Window.{SendsWithinWindow}
 
@@ -74,28 +72,6 @@ module _ (items : Vec ℕ) where
     acked_ends : flight Client ((Arrive 3 9, Ok (Arrived Client Data 0 60 (New items (Taken acked)))) ∷ two) ≡ 1000
     acked_ends = rw (numbers, lost, none) refl
 
-  -- ---- RTT samples
-
-  -- number 0 is sent at time 5, and its ACK arrives at time 40
-  module _ (acked : Acknowledged) (numbers : acked.numbers.items ≡ 0 ∷ []) where
-    abbrev acks : PairEvent
-    acks = (Arrive 3 40, Ok (Arrived Client Data 0 60 (New items (Taken acked))))
-
-    since_it_was_sent : acked.rtt ≡ Some 35 → SamplesRoundTrips (sent 0 None ∷ []) acks
-    since_it_was_sent is = rw is (record {
-      largest = 0;
-      newly = rw numbers (inl refl);
-      most = λ n one. none_more n (rw numbers at one);
-      since = refl;
-    })
-      where
-        none_more : (n : ℕ) → IsOneOf n (0 ∷ []) → n ≤ 0
-        none_more n (inl same) = omega (arith, same)
-        none_more n (inr never) = absurd never
-
-    none_is_taken : acked.rtt ≡ None → SamplesRoundTrips (sent 0 None ∷ []) acks
-    none_is_taken is = rw is tt
-
   -- ---- the promises
 
   first_fits : SendsWithinWindow [] (sent 0 (Some 1500))
@@ -144,7 +120,7 @@ module _ (items other : Vec ℕ) (outcome : AckOutcome) where
   not_up_to_more is = cc
 
   none_was_received_there : ¬ AcksLargest arrived (Send Client Initial 25 60, Ok (Sent 0 items false None (frame 4 0)))
-  none_was_received_there is = is
+  none_was_received_there is = cc
 
   -- a packet is handed over, and one is sent
   abbrev one_sent : Vec ℕ → PairLog

@@ -23,7 +23,7 @@ use Rattle.recovery_pair.specs.Promises.Sends.{SendsWhatWaits}
 use Rattle.recovery_pair.specs.Runs.{StepKeeps}
 use Rattle.recovery_pair.specs.Turns.{TurnsAt}
 use Rattle.recovery_pair.specs.Waits.{AreQueued, LocalWaits, LosesNone, LosesOne, waiting_in}
-use Rattle.recovery_pair.proofs.ItemTies.{ItemsKept}
+use Rattle.recovery_pair.proofs.ItemTies.{ItemsKept, repeats_with_cause}
 use Rattle.recovery_pair.proofs.LogLaws.{IsNoPacket}
 use Rattle.recovery_pair.proofs.StepTies.{ExchangeKept}
 use Rattle.recovery_pair.proofs.WaitLaws.{none_lost}
@@ -118,9 +118,13 @@ step_keeps client server client_after server_after wire wire_after client_waits 
         delay = one.0.delay;
         flight = one.0.flight;
         largest = one.0.largest;
+        framed = one.0.framed;
+        newly = one.0.newly;
         samples = one.0.samples;
         sends = two.0;
         resends = three.0;
+        repeats = repeats_with_cause ((step, answer) ∷ log) (client_after, client_waits_after)
+            (server_after, server_waits_after) three.1 three.2;
         local = local;
       },
       record {

@@ -117,7 +117,7 @@ module _ {F K Q S M P : Type 0} (built : F → ℕ → ℕ → K) (words : Contr
 
 -- ---- the events of calls
 
-one_of_member : (n : ℕ) (numbers : List ℕ) → IsOneOf n numbers → is_member nat_eq numbers n ≡ true
+pub one_of_member : (n : ℕ) (numbers : List ℕ) → IsOneOf n numbers → is_member nat_eq numbers n ≡ true
 one_of_member n [] is = absurd is
 one_of_member n (first ∷ numbers) (inl is) = grind (arith, nat_tests, is)
 one_of_member n (first ∷ numbers) (inr is) = let more = one_of_member n numbers is in grind (arith, nat_tests, more)

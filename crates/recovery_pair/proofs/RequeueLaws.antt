@@ -45,13 +45,19 @@ more_before : (b : Bool) (t : ℕ) → more_if b t ≡ 0 → t ≡ 0
 more_before true t none = absurd (omega (arith, none))
 more_before false t none = none
 
-or_first : (a b : Bool) → (a || b) ≡ false → a ≡ false
+pub or_first : (a b : Bool) → (a || b) ≡ false → a ≡ false
 or_first true b is = absurd (true≢false is)
 or_first false b is = refl
 
-or_second : (a b : Bool) → (a || b) ≡ false → b ≡ false
+pub or_second : (a b : Bool) → (a || b) ≡ false → b ≡ false
 or_second true b is = absurd (true≢false is)
 or_second false b is = is
+
+-- a number above others is another one
+pub other_number : (b : Bool) (k n limit amount rest : ℕ) → (b ≡ true → limit ≤ k) → n < limit
+    → part (b && k == n) amount + rest ≡ rest
+other_number true k n limit amount rest above below = let up = above refl in grind (arith, nat_tests, up, below)
+other_number false k n limit amount rest above below = omega arith
 
 -- ---- what tracked packets no longer carry of what was sent with them
 
@@ -219,12 +225,6 @@ module _ {F K Q S M P : Type 0} (beginning : Beginning F K Q S M P) (measure : P
       above_all there at = subst (λ s. (sent_in beginning before s).next ≤ number_in known there)
           (one_space there space at)
           (is_new beginning before there)
-
-      other_number : (b : Bool) (k n limit amount rest : ℕ) → (b ≡ true → limit ≤ k) → n < limit
-          → part (b && k == n) amount + rest ≡ rest
-      other_number true k n limit amount rest above below =
-          let up = above refl in grind (arith, nat_tests, up, below)
-      other_number false k n limit amount rest above below = omega arith
 
       this_number : (b : Bool) (k amount rest : ℕ) → rest ≡ 0 → part (b && k == k) amount + rest ≤ amount
       this_number true k amount rest none = grind (arith, nat_tests, none)

@@ -1,6 +1,6 @@
 -- No ACK of an ACK drops the largest number that an endpoint received, step by step.
 use Rattle.std.proofs.Common.{◌≡◌, ℕ, ◌+◌, ◌<◌, ◌≤◌, ◌⊎◌, inl, inr, ◌==◌, ◌&&◌, nat_eq, nat_le, nat_lt, Bool, true, false, true≢false, cond, List, [], ◌∷◌, ◌++◌, Option, None, Some, Ok, IfSome, IsSomeAnd, refl, sym, ap, subst, ◌∙◌, arith}
-use Rattle.std.specs.Prelude.{if◌then◌else◌}
+use Rattle.std.specs.Prelude.{if◌then◌else◌, option_map}
 use Rattle.std.specs.List.{AllByRecursion}
 use Rattle.std.specs.Set.{is_member}
 use Rattle.std.proofs.lemmas.Bool.Decides.{nat_tests}
@@ -22,8 +22,7 @@ use Rattle.recovery_pair.specs.declared.steps.WirePacket.{WirePacket}
 use Rattle.recovery_pair.specs.Flights.{acked_by}
 use Rattle.recovery_pair.specs.Frames.{IsSoundFrame}
 use Rattle.recovery_pair.specs.Logs.{PairLog, deliveries_of, other_end}
-use Rattle.recovery_pair.specs.Pasts.{AcksBelow, AcksWithin, EndTurn, GoesOn, GoesOnQuietly, HearsNumber, KeepsLargest, SendsWithAck, WasSentUnder, endings_by_ack, hearing, largest_came, quiet, with_carried}
-use Rattle.recovery_pair.specs.Promises.LargestAcked.{IsLargestOf}
+use Rattle.recovery_pair.specs.Pasts.{AcksBelow, AcksWithin, EndTurn, GoesOn, GoesOnQuietly, HearsNumber, KeepsLargest, SendsWithAck, WasSentUnder, endings_by_ack, largest_came}
 use Rattle.recovery_pair.specs.Rising.{AcksRise, RisesAbove}
 use Rattle.recovery_pair.specs.Tied.{Flows, IsOnWire}
 use Rattle.recovery_pair.proofs.GoingLaws.{no_acks, same_itself, uncarried_same}
@@ -79,6 +78,10 @@ some_frame ranges l (inr fine) is = fine
 some_frame [] l (inl none) is = absurd cc
 some_frame (range ∷ ranges) l (inl none) is = absurd cc
 
+none_in : (ranges : List (ℕ × ℕ)) (n : ℕ) → largest_of ranges ≡ None → IsInAckRanges n ranges → ⊥
+none_in [] n is there = there
+none_in (range ∷ ranges) n is there = absurd cc
+
 -- ---- the largest number received was received
 
 received_or : (here : Bool) (before : Option (ℕ × ℕ)) (m now : ℕ) (largest : ℕ × ℕ)
@@ -115,23 +118,29 @@ module _ {Q S M P : Type 0} (space : SpaceId) (past : History Q S M P) (ranges :
     (sound : IsSoundFrame ranges) (acks : (k : ℕ) → IsInAckRanges k ranges → WasReceived space k past)
     (whole : (k : ℕ) → WasReceived space k past → ¬ WasDropped space k past → IsInAckRanges k ranges)
     (keeps : KeepsLargest space past) where
-  pub frame_largest : IsLargestOf (largest_of ranges) (largest_came space past)
+  pub frame_largest : largest_of ranges ≡ option_map (λ received. received.0) (largest_came space past)
   frame_largest = by (largest_of ranges) (largest_came space past) refl refl
     where
+      -- the largest number received is in the frame
+      top_in : (largest : ℕ × ℕ) → largest_came space past ≡ Some largest → IsInAckRanges largest.0 ranges
+      top_in largest here =
+          let kept = subst (λ (o : Option (ℕ × ℕ)). IfSome o (λ it. ¬ WasDropped space it.0 past)) here keeps in
+          whole largest.0 (largest_received space past largest here) kept
+
       by : (frame : Option ℕ) (came : Option (ℕ × ℕ)) → largest_of ranges ≡ frame → largest_came space past ≡ came
-          → IsLargestOf frame came
-      by None came is here = tt
+          → ◌≡◌ {A = Option ℕ} frame (option_map (λ received. received.0) came)
+      by None None is here = refl
+      by None (Some largest) is here = absurd (none_in ranges largest.0 is (top_in largest here))
       by (Some n) None is here =
           let in_it = largest_in_frame ranges (some_frame ranges n sound is) n is in
-          subst (IsWithin n) here (received_within space past n (acks n in_it))
+          absurd (subst (IsWithin n) here (received_within space past n (acks n in_it)))
       by (Some n) (Some largest) is here =
           let fine = some_frame ranges n sound is in
           let low = subst (IsWithin n) here
           (received_within space past n (acks n (largest_in_frame ranges fine n is))) in
-          let kept = subst (λ (o : Option (ℕ × ℕ)). IfSome o (λ it. ¬ WasDropped space it.0 past)) here keeps in
-          let high = in_below ranges fine largest.0 n is
-          (whole largest.0 (largest_received space past largest here) kept) in
-          omega (arith, low, high)
+          let high = in_below ranges fine largest.0 n is (top_in largest here) in
+          let same : n ≡ largest.0 = omega (arith, low, high) in
+          ap (λ (k : ℕ). Some k) same
 
 -- ---- a step by which nothing is sent or acknowledged
 
@@ -186,7 +195,7 @@ never_other Server Server one two = absurd cc
 module _ {Q S M P : Type 0} (log : PairLog) (size counted now : ℕ) (end : End) (past after peer : History Q S M P)
     (packet : WirePacket) (wire : List WirePacket) (sender : packet.from ≡ end)
     (sound : IsSoundFrame packet.ranges.items)
-    (sends : SendsWithAck size counted packet.space packet.number packet.ranges.items now past after)
+    (sends : SendsWithAck size counted packet.eliciting packet.space packet.number packet.ranges.items now past after)
     (flows : Flows log end past peer) (back : Flows log (other_end end) peer past)
     (wired : AllByRecursion (IsOnWire log) wire) (rises : AcksRise end past peer wire)
     (others : AcksRise (other_end end) peer past wire) where
@@ -251,7 +260,7 @@ module _ {Q S M P : Type 0} (log : PairLog) (size counted now : ℕ) (end : End)
 
 -- ---- a packet is new
 
-member_one : (n : ℕ) (numbers : List ℕ) → is_member nat_eq numbers n ≡ true → IsOneOf n numbers
+pub member_one : (n : ℕ) (numbers : List ℕ) → is_member nat_eq numbers n ≡ true → IsOneOf n numbers
 member_one n [] is = absurd (true≢false (sym is))
 member_one n (first ∷ numbers) is = by (first == n) refl (member_one n numbers)
   where

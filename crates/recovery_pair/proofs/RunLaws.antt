@@ -11,6 +11,7 @@ use Rattle.recovery_pair.specs.Logs.{PairLog}
 use Rattle.recovery_pair.specs.Runs.{HoldAlong, PairStepIntoSink, StepsOverSource, log_after}
 use Rattle.recovery_pair.specs.Tied.{IsTied}
 use Rattle.recovery_pair.specs.Timed.{HaveTimersByEvents}
+use Rattle.recovery_pair.proofs.DeadlockLaws.{timed_at_both}
 
 module _ {F Q R C K S M : Type 0} {f : _} {c : _} {q : _} {m : _} {r : _} {A T : Type 0}
     (takes : T → Result PairAnswer SenderError → T → Type 0) (took : A → PairStep → A → Type 0)
@@ -55,4 +56,13 @@ module _ {F Q R C K S M : Type 0} {f : _} {c : _} {q : _} {m : _} {r : _} {A T :
       (server_waits new)
   along_source AreGiven steps old new given is =
       let all = along steps old new is in
-      record { steps = steps; answers = all.0; given = given; taken = all.1; keeps = all.2; timer_set = all.3 }
+      record {
+        steps = steps;
+        answers = all.0;
+        given = given;
+        taken = all.1;
+        keeps = all.2;
+        timer_set = all.3;
+        unstuck = λ validated log tied have. timed_at_both _ _ _ _ _ validated (log_after log steps all.0)
+            (all.2 validated log tied).1 (all.3 have);
+      }

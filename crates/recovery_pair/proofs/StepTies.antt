@@ -1,6 +1,6 @@
 -- Each step of an end keeps the promises, and the tie of the log. It is proved once, for the end that makes it.
 use Rattle.std.proofs.Common.{◌≡◌, ℕ, nat_le, ◌<◌, ◌≤◌, ◌⊎◌, inl, inr, Bool, true, false, true≢false, List, [], ◌∷◌, ◌++◌, length, get_or, ◌+◌, Option, None, Some, Result, Ok, refl, sym, ap, subst, ◌∙◌, arith}
-use Rattle.std.specs.Prelude.{IfOk, IfSome, map}
+use Rattle.std.specs.Prelude.{IfOk, map, option_map}
 use Rattle.std.specs.Global.{Vec}
 use Rattle.std.specs.List.{AllByRecursion}
 use Rattle.std.proofs.lemmas.Bool.Decides.{nat_tests}
@@ -13,7 +13,7 @@ use Rattle.recovery_losses.specs.Frames.{IsInAckRanges, largest_of}
 use Rattle.recovery_paths.specs.declared.path_pair.PathName.TheVariants.{Current}
 use Rattle.recovery_history.specs.History.{History, begins, queue_model}
 use Rattle.recovery_history.specs.Promises.NewNumbers.{came_in, is_discarded, is_new}
-use Rattle.recovery_sender.specs.Promises.Lost.{sent_at}
+use Rattle.recovery_sender.specs.Promises.Lost.{elicits_by, sent_at}
 use Rattle.recovery_sender.specs.Senders.{state_in}
 use Rattle.recovery_sender.specs.declared.sender.Sender.{Sender}
 use Rattle.recovery_sender.specs.declared.sender.SenderError.{SenderError}
@@ -33,18 +33,21 @@ use Rattle.recovery_pair.specs.declared.steps.PairStep.{PairStep}
 use Rattle.recovery_pair.specs.declared.steps.PairStep.TheVariants.{Arrive, Local, Send}
 use Rattle.recovery_pair.specs.declared.steps.WirePacket.{WirePacket}
 use Rattle.recovery_pair.specs.Frames.{IsSoundFrame}
-use Rattle.recovery_pair.specs.Logs.{IsAt, PairEvent, PairLog, LoggedPacket, ack_of, deliveries_of, numbers_at, other_end, sends_of, time_sent, was_discarded, wire_of}
-use Rattle.recovery_pair.specs.Flights.{counted_if, no_numbers}
-use Rattle.recovery_pair.specs.Pasts.{AcksWithin, Continues, GoesOn, GoesOnQuietly, Endings, HasPast, HearsNumber, IsHeardBy, IsSince, SampledBy, SamplesSince, SendsWithAck, EndTurn, WereSentUnder, endings_by_ack, endings_by_fate, hearing, packet_leaving, quiet}
+use Rattle.recovery_pair.specs.Logs.{IsAt, PairEvent, PairLog, LoggedPacket, ack_of, deliveries_of, is_eliciting, numbers_at, other_end, sends_of, time_sent, was_discarded, wire_of}
+use Rattle.recovery_pair.specs.Flights.{Numbers, counted_if, flight_of, no_numbers}
+use Rattle.recovery_pair.specs.Newly.{AcksFlight}
+use Rattle.recovery_pair.specs.Pasts.{AcksWithin, Continues, GivesSample, GoesOn, GoesOnQuietly, Endings, HasPast, HearsNumber, IsHeardBy, SampledBy, SendsWithAck, EndTurn, WereSentUnder, endings_by_ack, endings_by_fate, hearing, flight_in, packet_leaving, quiet}
 use Rattle.recovery_pair.specs.Permits.{FitsChecked}
 use Rattle.recovery_pair.specs.Promises.Arrivals.{ArrivesAsSent, Delivers, IsArrival, IsFateBy, IsFirstDelivery}
 use Rattle.recovery_pair.specs.Promises.DeliveredOnce.{AcksDelivered}
 use Rattle.recovery_pair.specs.Promises.Locals.{IsLocalAnswer}
 use Rattle.recovery_pair.specs.Promises.NeverAccused.{NeverAccuses}
+use Rattle.recovery_pair.specs.Promises.Newly.{AcksInFlight, all_but}
 use Rattle.recovery_pair.specs.Promises.Delays.{ReportsDelay, largest_new}
 use Rattle.recovery_pair.specs.Promises.Excess.{ExceedsByProbes}
-use Rattle.recovery_pair.specs.Promises.LargestAcked.{AcksLargest, IsLargestOf}
-use Rattle.recovery_pair.specs.Promises.RttSamples.{IsSampleAt, SamplesRoundTrips}
+use Rattle.recovery_pair.specs.Promises.Framed.{ArrivesFramed}
+use Rattle.recovery_pair.specs.Promises.LargestAcked.{AcksLargest}
+use Rattle.recovery_pair.specs.Promises.RttSamples.{SamplesRoundTrips}
 use Rattle.recovery_pair.specs.Promises.Threefold.{ServerSendsThreefold}
 use Rattle.recovery_pair.specs.Promises.Window.{SendsWithinWindow}
 use Rattle.recovery_pair.specs.Rising.{RisesAbove}
@@ -56,8 +59,8 @@ use Rattle.recovery_pair.proofs.LargestLaws.{largest_by}
 use Rattle.recovery_pair.proofs.GoingLaws.{quiet_none}
 use Rattle.recovery_pair.proofs.LogLaws.{Adds, IsNoPacket, IsNotLocal, arriving_adds, arriving_adds_not, idle_adds, local_adds, local_adds_not, local_moves, logged_on, sending_adds, sending_adds_not}
 use Rattle.recovery_pair.proofs.QuietLaws.{same_quietly}
-use Rattle.recovery_pair.proofs.RisingLaws.{frame_largest, heard_top, in_below, rises_by, rises_on, rises_sent, rises_still, rises_there, some_frame}
-use Rattle.recovery_pair.proofs.TurnLaws.{since_same}
+use Rattle.recovery_pair.proofs.RisingLaws.{frame_largest, heard_top, largest_in_frame, rises_by, rises_on, rises_sent, rises_still, rises_there, some_frame}
+use Rattle.recovery_pair.proofs.TurnLaws.{sample_same}
 use Rattle.recovery_pair.proofs.TieLaws.{all_at, all_map, all_push, before_it, delivered_known, flows_kept, flows_sent, flows_taken, other_sends, other_takes, received_delivered, sending, sends_kept, sent_once, takes_kept, taking}
 
 -- ---- ends
@@ -82,6 +85,8 @@ pub record KeepsExchange (validated : Bool) (log : PairLog) (event : PairEvent) 
   pub delay : ReportsDelay log event
   pub flight : ExceedsByProbes (event ∷ log)
   pub largest : AcksLargest log event
+  pub framed : ArrivesFramed log event
+  pub newly : AcksInFlight log event
   pub samples : SamplesRoundTrips log event
 
 -- ---- one end makes a step, the other does nothing
@@ -198,6 +203,14 @@ silent_largest : (log : PairLog) (event : PairEvent) → IsSilent event → Acks
 silent_largest log (Send from there now size, Ok (Sent number items eliciting window delay)) silent = absurd silent
 silent_largest log event silent = tt
 
+silent_framed : (log : PairLog) (event : PairEvent) → IsSilent event → ArrivesFramed log event
+silent_framed log (Arrive at now, Ok (Arrived to there number size (New items acked))) silent = absurd silent
+silent_framed log event silent = tt
+
+silent_newly : (log : PairLog) (event : PairEvent) → IsSilent event → AcksInFlight log event
+silent_newly log (Arrive at now, Ok (Arrived to there number size (New items acked))) silent = absurd silent
+silent_newly log event silent = tt
+
 silent_samples : (log : PairLog) (event : PairEvent) → IsSilent event → SamplesRoundTrips log event
 silent_samples log (Arrive at now, Ok (Arrived to there number size (New items acked))) silent = absurd silent
 silent_samples log event silent = tt
@@ -272,6 +285,8 @@ module _ {F Q R C K S M P : Type 0} {f : _} {c : _} {q : _} {m : _} {r : _} (end
       delay = silent_delay log (step, answer) silent;
       flight = exceeds_by ((step, answer) ∷ log) tied_still.within;
       largest = silent_largest log (step, answer) silent;
+      framed = silent_framed log (step, answer) silent;
+      newly = silent_newly log (step, answer) silent;
       samples = silent_samples log (step, answer) silent;
     },
     tied_still,
@@ -291,14 +306,15 @@ sent_same : (end : End) (size : ℕ) (items : Vec ℕ) (packet : WirePacket) →
       number = packet.number;
       size = size;
       items = items.items;
+      largest = largest_of packet.ranges.items;
     }) ≡ sent_as packet
 sent_same end size items packet sender sized told = rw (sender, sized, told) refl
 
 module _ {Q S M P : Type 0} (log : PairLog) (now size : ℕ) (end : End) (past after peer : History Q S M P)
     (packet : WirePacket) (items : Vec ℕ) (window : Option ℕ) (wire : List WirePacket) (sender : packet.from ≡ end)
     (told : items.items ≡ packet.items.items) (sound : IsSoundFrame packet.ranges.items)
-    (sends : SendsWithAck size (counted_if packet.eliciting size) packet.space packet.number packet.ranges.items now
-    past after)
+    (sends : SendsWithAck size (counted_if packet.eliciting size) packet.eliciting packet.space packet.number
+    packet.ranges.items now past after)
     (flows : Flows log end past peer) (back : Flows log (other_end end) peer past)
     (wired : AllByRecursion (IsOnWire log) wire) where
   abbrev sent_log : PairLog
@@ -312,7 +328,7 @@ module _ {Q S M P : Type 0} (log : PairLog) (now size : ℕ) (end : End) (past a
 
   back_sent : Flows sent_log (other_end end) peer after
   back_sent = flows_kept log sent_log (other_end end)
-      (packet_leaving size (counted_if packet.eliciting size) packet.space packet.number
+      (packet_leaving size (counted_if packet.eliciting size) packet.eliciting packet.space packet.number
       (largest_of packet.ranges.items) now) peer peer past after
       (other_sends log packet.space now size packet.number items packet.eliciting window (ack_of packet) end)
       (λ space n. refl) (λ space n given. given) refl
@@ -410,7 +426,7 @@ module _ {F Q R C K S M P : Type 0} {f : _} {c : _} {q : _} {m : _} {r : _} (end
         back = back_sent log now size end tied.own.past own.0 tied.peer.past packet items window wire is.sender is.told
             is.sound own.2 tied.out tied.back tied.wired;
         logged = logged_on validated log event end tied.own.config.validated
-            (packet_leaving size (counted_if packet.eliciting size) packet.space packet.number
+            (packet_leaving size (counted_if packet.eliciting size) packet.eliciting packet.space packet.number
             (largest_of packet.ranges.items) now) tied.own.past own.0
             (sending_adds log packet.space now size packet.number items packet.eliciting window (ack_of packet) end
             (largest_of packet.ranges.items))
@@ -426,6 +442,7 @@ module _ {F Q R C K S M P : Type 0} {f : _} {c : _} {q : _} {m : _} {r : _} (end
           number = packet.number;
           size = size;
           items = items.items;
+          largest = largest_of packet.ranges.items;
         } ∷ []) tied.listed
             ∙ ap (λ (last : LoggedPacket). map sent_as wire ++ last ∷ [])
             (sent_same end size items packet is.sender is.sized is.told) ∙ sym (map_push wire packet);
@@ -440,10 +457,12 @@ module _ {F Q R C K S M P : Type 0} {f : _} {c : _} {q : _} {m : _} {r : _} (end
       }
 
   -- its ACK frame goes up to the largest number received, by the log
-  largest_by_log : IsLargestOf (largest_of packet.ranges.items) (largest_new end packet.space log)
+  largest_by_log : largest_of packet.ranges.items
+      ≡ option_map (λ received. received.0) (largest_new end packet.space log)
   largest_by_log =
       let own = is.goes.from tied.own.config tied.own.start tied.own.random tied.own.past tied.own.came in
-      subst (IsLargestOf (largest_of packet.ranges.items)) (tied.logged.largest packet.space)
+      subst (λ (received : Option (ℕ × ℕ)). largest_of packet.ranges.items ≡ option_map (λ it. it.0) received)
+      (tied.logged.largest packet.space)
       (frame_largest packet.space tied.own.past packet.ranges.items is.sound own.2.acks own.2.whole
       (tied.own_rise.keeps packet.space))
 
@@ -468,6 +487,8 @@ module _ {F Q R C K S M P : Type 0} {f : _} {c : _} {q : _} {m : _} {r : _} (end
           end ∷ log)
           tied_sent.within;
       largest = largest_by_log;
+      framed = tt;
+      newly = tt;
       samples = tt;
     },
     tied_sent,
@@ -573,23 +594,30 @@ module _ {Q S M P : Type 0} (log : PairLog) (to : End) (past peer : History Q S 
 
 -- ---- an RTT sample
 
-sample_is : (log : PairLog) (end : End) (space : SpaceId) (number size at now : ℕ) (items : Vec ℕ)
-    (ranges : List (ℕ × ℕ)) → IsSoundFrame ranges → (outcome : AckOutcome) → AcksWithin ranges outcome
-    → SamplesSince (λ n. time_sent end space n log) now ranges outcome
-    → SamplesRoundTrips log (Arrive at now, Ok (Arrived end space number size (New items outcome)))
-sample_is log end space number size at now items ranges sound (Taken acked) within since = by acked.rtt since
-  where
-    by : (rtt : Option ℕ) → IfSome rtt (IsSince (λ n. time_sent end space n log) now ranges acked.numbers.items)
-        → IfSome rtt (IsSampleAt log end space now acked.numbers.items)
-    by None is = tt
-    by (Some rtt) is = record {
-      largest = is.largest;
-      newly = is.newly;
-      most = λ n one. in_below ranges (some_frame ranges is.largest sound is.is_largest) n is.largest is.is_largest
-          (within n one);
-      since = is.since;
-    }
-sample_is log end space number size at now items ranges sound outcome within since = tt
+sample_is : (log : PairLog) (end : End) (number size at now : ℕ) (items : Vec ℕ) (packet : WirePacket)
+    → IsAt (wire_of log) at (sent_as packet) → (outcome : AckOutcome)
+    → GivesSample (λ n. time_sent end packet.space n log) (λ n. is_eliciting end packet.space n log) now
+    (largest_of packet.ranges.items) outcome
+    → SamplesRoundTrips log (Arrive at now, Ok (Arrived end packet.space number size (New items outcome)))
+sample_is log end number size at now items packet place (Taken acked) is =
+    record { packet = sent_as packet; sent = place; rtt = is }
+sample_is log end number size at now items packet place outcome is = tt
+
+-- what is in flight is newly acknowledged
+newly_is : {Q S M P : Type 0} (log : PairLog) (end : End) (number size at now : ℕ) (items : Vec ℕ)
+    (packet : WirePacket) (past : History Q S M P) → IsAt (wire_of log) at (sent_as packet)
+    → IsSoundFrame packet.ranges.items
+    → ((gone : Numbers) → flight_of end (λ window. true) gone log ≤ flight_in gone past) → (outcome : AckOutcome)
+    → AcksFlight packet.space packet.ranges.items outcome past
+    → AcksInFlight log (Arrive at now, Ok (Arrived end packet.space number size (New items outcome)))
+newly_is log end number size at now items packet past place sound less (Taken acked) is = record {
+  packet = sent_as packet;
+  sent = place;
+  newly = λ l largest some.
+      is l (largest_in_frame packet.ranges.items (some_frame packet.ranges.items l sound largest) l largest)
+      (let most = less (all_but packet.space l) in omega (arith, most, some));
+}
+newly_is log end number size at now items packet past place sound less outcome is = tt
 
 -- ---- a packet that arrives was sent
 
@@ -618,16 +646,6 @@ module _ {F Q R C K S M P : Type 0} {f : _} {c : _} {q : _} {m : _} {r : _} (at 
     (let same = length-map wire sent_as in omega (arith, same, within)),
     get_or-map sent_as wire at packet (sent_as packet) within ∙ ap sent_as (sym found),
   )
-
-  -- the packet at the place, as it is told
-  as_told : sent_as packet ≡ (record {
-    from = other_end (other_end from);
-    space = packet.space;
-    number = packet.number;
-    size = packet.size;
-    items = packet.items.items;
-  })
-  as_told = rw (twice from, sender) refl
 
   -- it was sent, so its number is small
   small : nat_le number_limit packet.number ≡ false
@@ -658,8 +676,9 @@ module _ {F Q R C K S M P : Type 0} {f : _} {c : _} {q : _} {m : _} {r : _} (at 
         → IsFirstDelivery (deliveries_of (other_end from) packet.space packet.number log) fate
         → IsArrival log at (other_end from) packet.space packet.number packet.size fate
     arrival delivers once = record {
-      contents = packet.items.items;
-      sent = subst (IsAt (wire_of log) at) as_told place;
+      packet = sent_as packet;
+      sent = place;
+      same = (sender ∙ sym (twice from), refl, refl, refl);
       fated = fated;
       delivers = delivers;
       once = once;
@@ -743,17 +762,16 @@ module _ {F Q R C K S M P : Type 0} {f : _} {c : _} {q : _} {m : _} {r : _} (at 
               own.2.goes.given tied.peer_rise;
         }
 
-    -- a sample is the time since the largest newly acknowledged number was sent, by the log
-    sampled_by_log : (outcome : AckOutcome) → AcksWithin packet.ranges.items outcome
-        → SampledBy packet.space now packet.ranges.items here outcome
+    -- there is a sample exactly if the frame gives one, by the log
+    sampled_by_log : (outcome : AckOutcome) → SampledBy packet.space now packet.ranges.items here outcome
         → SamplesRoundTrips log
         (Arrive at now, Ok (Arrived (other_end from) packet.space packet.number packet.size (New items outcome)))
-    sampled_by_log outcome in_it samples =
-        sample_is log (other_end from) packet.space packet.number packet.size at now items packet.ranges.items
-        on_wire.sound outcome in_it (since_same (sent_at packet.space tied.own.past)
-        (λ n. time_sent (other_end from) packet.space n log) now packet.ranges.items
-        (tied.logged.times packet.space) outcome
-        (samples tied.own.config tied.own.start tied.own.random tied.own.past tied.own.came))
+    sampled_by_log outcome samples =
+        sample_is log (other_end from) packet.number packet.size at now items packet place outcome
+        (sample_same (sent_at packet.space tied.own.past) (λ n. time_sent (other_end from) packet.space n log)
+        (elicits_by packet.space tied.own.past) (λ n. is_eliciting (other_end from) packet.space n log) now
+        (largest_of packet.ranges.items) (tied.logged.times packet.space) (tied.logged.elicits packet.space) outcome
+        (samples tied.own.config tied.own.start tied.own.random tied.own.past tied.own.came tied.logged.paths))
 
     pub new_step : KeepsExchange validated log event
         × IsTiedAt validated (other_end from) (event ∷ log) after there wire
@@ -774,7 +792,11 @@ module _ {F Q R C K S M P : Type 0} {f : _} {c : _} {q : _} {m : _} {r : _} (at 
             delay = tt;
             flight = exceeds_by (event ∷ log) tied_new.within;
             largest = tt;
-            samples = sampled_by_log acked is.takes.within is.takes.sampled;
+            framed = record { packet = sent_as packet; sent = place; framed = is.takes.framed };
+            newly = newly_is log (other_end from) packet.number packet.size at now items packet tied.own.past place
+                on_wire.sound tied.logged.flight acked (is.takes.newly tied.own.config tied.own.start
+                tied.own.random tied.own.past tied.own.came);
+            samples = sampled_by_log acked is.takes.sampled;
           },
           tied_new,
         )

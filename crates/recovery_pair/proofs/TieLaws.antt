@@ -152,7 +152,8 @@ module _ (log : PairLog) (there : SpaceId) (now size m : ℕ) (items : Vec ℕ) 
   sending_delivers end at space n = refl
 
   module _ {Q S M P : Type 0} (end : End) (past past_after peer : History Q S M P)
-      (counted : ℕ) (largest : Option ℕ) (sends : SendsNumber size counted there m largest now past past_after)
+      (counted : ℕ) (largest : Option ℕ)
+      (sends : SendsNumber size counted eliciting there m largest now past past_after)
       (flows : Flows log end past peer) where
     -- nothing was sent under the number before
     unsent_by : Travels log end there m past peer → IsUnsent log end there m past peer

@@ -1,5 +1,6 @@
 -- What an end does with its sender at each step, from its calls.
-use Rattle.std.proofs.Common.{◌≡◌, ℕ, ◌+◌, ◌-◌, ◌≤◌, ◌&&◌, Bool, true, false, List, Option, None, Some, Result, Ok, IfSome, refl, sym, ap, subst, ◌∙◌}
+use Rattle.std.proofs.Common.{◌≡◌, ℕ, ◌+◌, ◌≤◌, ◌&&◌, Bool, true, false, List, Option, None, Some, Result, Ok, refl, sym, subst, arith, ◌∙◌}
+use Rattle.std.proofs.Math.Path.{fun_ext}
 use Rattle.std.specs.Prelude.{not, if◌then◌else◌}
 use Rattle.std.specs.Global.{Vec}
 use Rattle.recovery_base.specs.declared.below.SpaceId.{SpaceId}
@@ -7,7 +8,7 @@ use Rattle.recovery_losses.specs.Frames.{IsInAckRanges, largest_of}
 use Rattle.recovery_losses.specs.Variables.{is_probe_due}
 use Rattle.recovery_history.specs.History.{begins, queue_model}
 use Rattle.recovery_sender.specs.Calls.{bytes_in_flight, window_of}
-use Rattle.recovery_sender.specs.Promises.Lost.{sent_at}
+use Rattle.recovery_sender.specs.Promises.Lost.{elicits_by, sent_at}
 use Rattle.recovery_sender.specs.Senders.{state_in}
 use Rattle.recovery_sender.specs.declared.sender.packets.Transmission.{Transmission}
 use Rattle.recovery_sender.specs.declared.sender.packets.Transmission.TheVariants.{Transmitted}
@@ -16,48 +17,46 @@ use Rattle.recovery_sender.specs.declared.sender.SenderError.{SenderError}
 use Rattle.recovery_pair.specs.declared.endpoint.Outgoing.{Outgoing}
 use Rattle.recovery_pair.specs.declared.endpoint.Outgoing.TheVariants.{Nothing, Held, Failed, Sent}
 use Rattle.recovery_pair.specs.declared.steps.AckOutcome.{AckOutcome}
-use Rattle.recovery_pair.specs.declared.steps.AckOutcome.TheVariants.{Taken}
 use Rattle.recovery_pair.specs.declared.steps.End.{End}
 use Rattle.recovery_pair.specs.declared.steps.Fate.TheVariants.{New}
 use Rattle.recovery_pair.specs.declared.steps.WirePacket.{WirePacket}
 use Rattle.recovery_pair.specs.Frames.{IsFrameFor}
 use Rattle.recovery_pair.specs.Flights.{counted_if}
-use Rattle.recovery_pair.specs.Pasts.{AcksWithin, Continues, Endings, GoesOn, GoesOnQuietly, HearsNumber, IsSince, NoAccusation, SampledBy, SamplesSince, SendsNumber, arriving, ending, endings_by_ack, leaving, no_endings, quiet}
+use Rattle.recovery_pair.specs.Pasts.{AcksWithin, Continues, Endings, GivesSample, GoesOn, GoesOnQuietly, HearsNumber, NoAccusation, SampledBy, SendsNumber, arriving, ending, endings_by_ack, leaving, no_endings, quiet}
+use Rattle.recovery_pair.specs.Newly.{AcksFlightBy}
 use Rattle.recovery_pair.specs.Permits.{FitsChecked}
+use Rattle.recovery_pair.specs.Promises.Framed.{HasFrame}
+use Rattle.recovery_pair.specs.Promises.Newly.{all_but}
 use Rattle.recovery_pair.specs.Turns.{FitsIfPermitted, HearsPacket, PacksPacket, PackTurn, SendsPacket, SendTurn}
 use Rattle.recovery_pair.proofs.FrameLaws.{pending_received, received_pending}
 use Rattle.recovery_pair.proofs.GoingLaws.{arrives_then_hears, hears_then_ends, hears_then_quiet, leaves_then_sends, left_quietly, quiet_then, quiet_then_sends, sends_then_quiet}
+use Rattle.recovery_pair.proofs.NewlyLaws.{flight_before}
 use Rattle.recovery_pair.proofs.QuietLaws.{joined}
 
--- a sample by other times that are the same
-pub since_same : (one other : ℕ → ℕ) (now : ℕ) (ranges : List (ℕ × ℕ)) → ((n : ℕ) → one n ≡ other n)
-    → (outcome : AckOutcome) → SamplesSince one now ranges outcome → SamplesSince other now ranges outcome
-since_same one other now ranges same (Taken acked) = by acked.rtt
-  where
-    by : (rtt : Option ℕ) → IfSome rtt (IsSince one now ranges acked.numbers.items)
-        → IfSome rtt (IsSince other now ranges acked.numbers.items)
-    by None is = tt
-    by (Some rtt) is = record {
-      largest = is.largest;
-      is_largest = is.is_largest;
-      newly = is.newly;
-      since = is.since ∙ ap (λ (at : ℕ). now - at) (same is.largest);
-    }
-since_same one other now ranges same outcome = λ is. tt
+-- a sample by other words for what was sent that are the same
+pub sample_same : (one other : ℕ → ℕ) (elicits eliciting : ℕ → Bool) (now : ℕ) (largest : Option ℕ)
+    → ((n : ℕ) → one n ≡ other n) → ((n : ℕ) → elicits n ≡ eliciting n)
+    → (outcome : AckOutcome) → GivesSample one elicits now largest outcome
+    → GivesSample other eliciting now largest outcome
+sample_same one other elicits eliciting now largest times kinds outcome is =
+    subst (λ (sent : ℕ → ℕ). GivesSample sent eliciting now largest outcome) (fun_ext times)
+    (subst (λ (kind : ℕ → Bool). GivesSample one kind now largest outcome) (fun_ext kinds) is)
 
 module _ {F Q R C K S M P : Type 0} {f : _} {c : _} {q : _} {m : _} {r : _} where
-  module _ (counted : ℕ) (space : SpaceId) (n : ℕ) (largest : Option ℕ) (now : ℕ)
+  module _ (counted : ℕ) (eliciting : Bool) (space : SpaceId) (n : ℕ) (largest : Option ℕ) (now : ℕ)
       (old between new : Sender F Q R C K S M P f c q m r) where
     pub quietly_sends : Continues GoesOnQuietly old between
-        → Continues (SendsNumber 0 counted space n largest now) between new
-        → Continues (SendsNumber 0 counted space n largest now) old new
-    quietly_sends = joined GoesOnQuietly (SendsNumber 0 counted space n largest now)
-        (SendsNumber 0 counted space n largest now) (quiet_then_sends 0 counted space n largest now) old between new
+        → Continues (SendsNumber 0 counted eliciting space n largest now) between new
+        → Continues (SendsNumber 0 counted eliciting space n largest now) old new
+    quietly_sends = joined GoesOnQuietly (SendsNumber 0 counted eliciting space n largest now)
+        (SendsNumber 0 counted eliciting space n largest now)
+        (quiet_then_sends 0 counted eliciting space n largest now) old between new
 
-    pub sends_quietly : Continues (SendsNumber 0 counted space n largest now) old between
-        → Continues GoesOnQuietly between new → Continues (SendsNumber 0 counted space n largest now) old new
-    sends_quietly = joined (SendsNumber 0 counted space n largest now) GoesOnQuietly
-        (SendsNumber 0 counted space n largest now) (sends_then_quiet 0 counted space n largest now) old between new
+    pub sends_quietly : Continues (SendsNumber 0 counted eliciting space n largest now) old between
+        → Continues GoesOnQuietly between new → Continues (SendsNumber 0 counted eliciting space n largest now) old new
+    sends_quietly = joined (SendsNumber 0 counted eliciting space n largest now) GoesOnQuietly
+        (SendsNumber 0 counted eliciting space n largest now)
+        (sends_then_quiet 0 counted eliciting space n largest now) old between new
 
   -- ---- a window that is checked
 
@@ -108,8 +107,8 @@ module _ {F Q R C K S M P : Type 0} {f : _} {c : _} {q : _} {m : _} {r : _} wher
                 two.0,
                 two.1,
                 record {
-                  sends = rw (packs.elicits, packs.acks) (leaves_then_sends size (counted_if eliciting size) space
-                      packet.number (largest_of ranges) now past one.0 two.0 one.2 two.2);
+                  sends = rw (packs.elicits, packs.acks) (leaves_then_sends size (counted_if eliciting size) eliciting
+                      space packet.number (largest_of ranges) now past one.0 two.0 one.2 two.2);
                   acks = λ k is. pending_received (begins f.built c.words (queue_model q.contents q.words q.blank)
                       config start random) past (state_in old) came space k
                       (frame.each k (subst (IsInAckRanges k) packs.acks is));
@@ -165,10 +164,13 @@ module _ {F Q R C K S M P : Type 0} {f : _} {c : _} {q : _} {m : _} {r : _} wher
       → Continues (HearsNumber now 0 packet.space packet.number (Ok true) no_endings) counted heard
       → Continues (GoesOn (ending (endings_by_ack packet.space acked))) heard taken → NoAccusation packet.space
       packet.ranges.items heard acked
-      → AcksWithin packet.ranges.items acked → SampledBy packet.space now packet.ranges.items heard acked
+      → AcksWithin packet.ranges.items acked → HasFrame (largest_of packet.ranges.items) acked
+      → SampledBy packet.space now packet.ranges.items heard acked
+      → AcksFlightBy packet.space packet.ranges.items heard acked
       → Continues GoesOnQuietly taken new
       → HearsPacket old new packet now (New items acked)
-  heard_turn now packet items acked old counted heard taken new told counts hears takes honest within samples plans =
+  heard_turn now packet items acked old counted heard taken new told counts hears takes honest within framed samples
+      newly plans =
       let came = came_turn now packet.size packet.space packet.number (Ok true) old counted heard counts hears in
       let ends : Endings = endings_by_ack packet.space acked in
       record {
@@ -188,9 +190,17 @@ module _ {F Q R C K S M P : Type 0} {f : _} {c : _} {q : _} {m : _} {r : _} wher
                 (were n is).1,
               )));
           within = within;
-          sampled = λ config start random past at. (
+          framed = framed;
+          sampled = λ config start random past at none. (
               let one = came.from config start random past at in
-              since_same (sent_at packet.space one.0) (sent_at packet.space past) now packet.ranges.items
-              (λ n. one.2.goes.timed packet.space n) acked (samples config start random one.0 one.1));
+              sample_same (sent_at packet.space one.0) (sent_at packet.space past) (elicits_by packet.space one.0)
+              (elicits_by packet.space past) now (largest_of packet.ranges.items)
+              (λ n. one.2.goes.timed packet.space n) (λ n. one.2.goes.elicited packet.space n) acked
+              (samples config start random one.0 one.1 (one.2.goes.paths ∙ none)));
+          newly = λ config start random past at. (
+              let one = came.from config start random past at in
+              flight_before packet.space packet.ranges.items past one.0
+              (λ n. (let most = one.2.goes.flight (all_but packet.space n) in omega (arith, most))) acked
+              (newly config start random one.0 one.1));
         };
       }

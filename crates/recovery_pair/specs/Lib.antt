@@ -1,7 +1,10 @@
 pub mod Carried
 pub mod Flights
 pub mod Frames
+pub mod LeastWindows
 pub mod Logs
+pub mod Newly
+pub mod NoDeadlock
 pub mod Pasts
 pub mod Permits
 pub mod Promises

@@ -1,5 +1,5 @@
 -- The log of two ends: the steps with their answers, the newest first.
-use Rattle.std.specs.Prelude.{◌≡◌, ℕ, ◌+◌, ◌<◌, ◌==◌, ◌&&◌, ◌||◌, Bool, true, false, List, [], ◌∷◌, ◌++◌, length, get_or, Result, Ok, if◌then◌else◌}
+use Rattle.std.specs.Prelude.{◌≡◌, ℕ, ◌+◌, ◌<◌, ◌==◌, ◌&&◌, ◌||◌, Bool, true, false, List, [], ◌∷◌, ◌++◌, length, get_or, Option, Result, Ok, if◌then◌else◌}
 use Rattle.recovery_base.specs.declared.below.SpaceId.{SpaceId}
 use Rattle.recovery_base.specs.Spaces.{same_space}
 use Rattle.recovery_losses.specs.Frames.{largest_of}
@@ -64,12 +64,21 @@ pub record LoggedPacket : Type 0 where
   pub number : ℕ
   pub size : ℕ
   pub items : List ℕ
+  -- the largest number of its ACK frame, if it has one
+  pub largest : Option ℕ
 
 -- all packets that were sent, in the order of sending
 abbrev pub wire_of : PairLog → List LoggedPacket
 wire_of [] = []
-wire_of ((Send end there now bytes, Ok (Sent n told eliciting window delay)) ∷ earlier) =
-    wire_of earlier ++ record { from = end; space = there; number = n; size = bytes; items = told.items } ∷ []
+wire_of ((Send end there now bytes, Ok (Sent n told eliciting window ack)) ∷ earlier) =
+    wire_of earlier ++ record {
+      from = end;
+      space = there;
+      number = n;
+      size = bytes;
+      items = told.items;
+      largest = ack.largest;
+    } ∷ []
 wire_of (event ∷ earlier) = wire_of earlier
 
 -- a packet has this position on it
@@ -109,6 +118,13 @@ module _ (end : End) where
   time_sent space n ((Send from there now size, Ok (Sent number items eliciting window delay)) ∷ earlier) =
       if is_number end space n from there number then now else time_sent space n earlier
   time_sent space n (event ∷ earlier) = time_sent space n earlier
+
+  -- whether that packet is ack-eliciting
+  abbrev pub is_eliciting : SpaceId → ℕ → PairLog → Bool
+  is_eliciting space n [] = false
+  is_eliciting space n ((Send from there now size, Ok (Sent number items eliciting window delay)) ∷ earlier) =
+      if is_number end space n from there number then eliciting else is_eliciting space n earlier
+  is_eliciting space n (event ∷ earlier) = is_eliciting space n earlier
 
   -- a step dropped the keys of a space
   abbrev pub was_discarded : SpaceId → PairLog → Bool

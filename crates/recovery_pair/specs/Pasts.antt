@@ -1,5 +1,5 @@
 -- How the past of an end goes on: what was sent stays sent, what was received stays received.
-use Rattle.std.specs.Prelude.{◌≡◌, ℕ, ◌+◌, ◌-◌, ◌<◌, ◌≤◌, ◌⊎◌, ◌||◌, ◌&&◌, ◌==◌, nat_eq, nat_le, Bool, true, false, List, [], ◌∷◌, sum_by, Option, None, Some, IfSome, IsSomeAnd, Result, Ok, Err, if◌then◌else◌}
+use Rattle.std.specs.Prelude.{◌≡◌, ℕ, ◌+◌, ◌<◌, ◌≤◌, ◌⊎◌, ◌||◌, ◌&&◌, ◌==◌, nat_eq, nat_le, Bool, true, false, List, [], ◌∷◌, sum_by, Option, None, Some, IfSome, IsSomeAnd, Result, Ok, Err, if◌then◌else◌}
 use Rattle.std.specs.Set.{is_member}
 use Rattle.rand_core.specs.Stream.{Stream}
 use Rattle.recovery_acks.specs.Acks.{largest_with}
@@ -7,8 +7,8 @@ use Rattle.recovery_base.specs.declared.below.SpaceId.{SpaceId}
 use Rattle.recovery_base.specs.Spaces.{same_space}
 use Rattle.recovery_base.specs.Units.{number_limit}
 use Rattle.recovery_events.specs.declared.event.Answer.{Answer}
-use Rattle.recovery_events.specs.declared.event.Answer.TheVariants.{New}
-use Rattle.recovery_events.specs.declared.event.Event.TheVariants.{Received}
+use Rattle.recovery_events.specs.declared.event.Answer.TheVariants.{New, Sent}
+use Rattle.recovery_events.specs.declared.event.Event.TheVariants.{Received, Send}
 use Rattle.recovery_events.specs.declared.event.Refusal.TheVariants.{NoMemory, NumberTooLarge, SpaceDiscarded}
 use Rattle.recovery_losses.specs.Frames.{IsInAckRanges, largest_of}
 use Rattle.recovery_losses.specs.Losses.{IsOneOf}
@@ -19,10 +19,10 @@ use Rattle.recovery_history.specs.Promises.Counted.{sum_on}
 use Rattle.recovery_history.specs.Promises.Datagrams.{bytes_in, bytes_out, datagrams_on, is_validated}
 use Rattle.recovery_history.specs.Promises.Fates.{is_given, times}
 use Rattle.recovery_history.specs.Promises.NewNumbers.{came_in, is_discarded, is_new}
-use Rattle.recovery_history.specs.Promises.Paths.{generations}
+use Rattle.recovery_history.specs.Promises.Paths.{generations, paths_made}
 use Rattle.recovery_history.specs.Reachability.{ReachedBy}
 use Rattle.recovery_paths.specs.declared.path_pair.PathName.TheVariants.{Current}
-use Rattle.recovery_sender.specs.Promises.Lost.{sent_at}
+use Rattle.recovery_sender.specs.Promises.Lost.{elicits_by, sent_at}
 use Rattle.recovery_sender.specs.Promises.Pasts.{ForEveryPast}
 use Rattle.recovery_sender.specs.Senders.{state_in}
 use Rattle.recovery_sender.specs.declared.sender.Sender.{Sender}
@@ -35,6 +35,7 @@ use Rattle.recovery_pair.specs.declared.steps.Fate.TheVariants as fates
 use Rattle.recovery_pair.specs.Flights.{Numbers, acked_by, counted_if, ends_by_ack, no_numbers}
 use Rattle.recovery_pair.specs.Frames.{IsSoundFrame}
 use Rattle.recovery_pair.specs.Promises.NeverAccused.{IsSpared}
+use Rattle.recovery_pair.specs.Promises.RttSamples.{sample_of}
 
 -- ---- what one step adds to the past of an end
 
@@ -60,8 +61,8 @@ pub record EndTurn : Type 0 where
   pub carries : Option (SpaceId × ℕ × Option ℕ)
   -- no other packets than these are acknowledged
   pub acks : Numbers
-  -- a packet is sent: its space, its number, and when
-  pub sends : Option (SpaceId × ℕ × ℕ)
+  -- a packet is sent: its space, its number, when, and whether it is ack-eliciting
+  pub sends : Option (SpaceId × ℕ × ℕ × Bool)
 
 -- the packets that end, and those of them that are acknowledged
 pub record Endings : Type 0 where
@@ -112,12 +113,12 @@ abbrev pub discarding : SpaceId → EndTurn
 discarding space = record quiet { discards = Some space; ends = λ there n. same_space space there }
 
 -- a packet is sent in a datagram of this size, with an ACK up to this number, if any
-abbrev pub packet_leaving : ℕ → ℕ → SpaceId → ℕ → Option ℕ → ℕ → EndTurn
-packet_leaving size counted space n largest now = record quiet {
+abbrev pub packet_leaving : ℕ → ℕ → Bool → SpaceId → ℕ → Option ℕ → ℕ → EndTurn
+packet_leaving size counted eliciting space n largest now = record quiet {
   leaves = size;
   counts = Some (space, n, counted);
   carries = Some (space, n, largest);
-  sends = Some (space, n, now);
+  sends = Some (space, n, now, eliciting);
 }
 
 abbrev pub validating : EndTurn
@@ -156,9 +157,14 @@ with_carried space n None before = before
 with_carried space n (Some sent) before = if same_space sent.0 space && sent.1 == n then sent.2 else before
 
 -- when a packet was sent, after one was
-abbrev pub with_time : SpaceId → ℕ → Option (SpaceId × ℕ × ℕ) → ℕ → ℕ
+abbrev pub with_time : SpaceId → ℕ → Option (SpaceId × ℕ × ℕ × Bool) → ℕ → ℕ
 with_time space n None before = before
 with_time space n (Some sent) before = if same_space sent.0 space && sent.1 == n then sent.2 else before
+
+-- and whether it is ack-eliciting
+abbrev pub with_eliciting : SpaceId → ℕ → Option (SpaceId × ℕ × ℕ × Bool) → Bool → Bool
+with_eliciting space n None before = before
+with_eliciting space n (Some sent) before = if same_space sent.0 space && sent.1 == n then sent.3 else before
 
 -- what a sent packet adds in flight, unless its number is gone
 abbrev pub added : Option (SpaceId × ℕ × ℕ) → Numbers → ℕ
@@ -208,6 +214,13 @@ module _ {Q S M P : Type 0} where
       else largest_came space earlier
   largest_came space (happened ∷ earlier) = largest_came space earlier
 
+  -- the bytes of the packets that count in flight, but are not ack-eliciting
+  abbrev pub silent_bytes : History Q S M P → ℕ
+  silent_bytes [] = 0
+  silent_bytes ((Send there now size eliciting largest queue frames, Ok (Sent number forgotten)) ∷ earlier) =
+      (if eliciting then 0 else size) + silent_bytes earlier
+  silent_bytes (happened ∷ earlier) = silent_bytes earlier
+
   -- the largest number received is still to be acknowledged (RFC 9000, 13.2.3)
   abbrev pub KeepsLargest : SpaceId → History Q S M P → Type 0
   KeepsLargest space past = IfSome (largest_came space past) (λ largest. ¬ WasDropped space largest.0 past)
@@ -236,26 +249,30 @@ module _ {Q S M P : Type 0} where
     pub carried : (space : SpaceId) (n : ℕ) → largest_in space n after
         ≡ with_carried space n turn.carries (largest_in space n past)
     pub timed : (space : SpaceId) (n : ℕ) → sent_at space after n ≡ with_time space n turn.sends (sent_at space past n)
+    pub elicited : (space : SpaceId) (n : ℕ) → elicits_by space after n
+        ≡ with_eliciting space n turn.sends (elicits_by space past n)
+    pub paths : paths_made after ≡ paths_made past
     pub topped : (space : SpaceId) → AcksBelow turn.acks space past after → KeepsLargest space past
         → KeepsLargest space after
+    pub silent : silent_bytes after ≤ silent_bytes past
 
   abbrev pub GoesOnQuietly : History Q S M P → History Q S M P → Type 0
   GoesOnQuietly = GoesOn quiet
 
   -- a packet is sent under a number that was not used before, in a datagram of this size; `counted` bytes of the packet
   -- count in flight
-  pub record SendsNumber (size counted : ℕ) (space : SpaceId) (n : ℕ) (largest : Option ℕ) (now : ℕ)
+  pub record SendsNumber (size counted : ℕ) (eliciting : Bool) (space : SpaceId) (n : ℕ) (largest : Option ℕ) (now : ℕ)
       (past after : History Q S M P) : Type 0 where
-    pub goes : GoesOn (packet_leaving size counted space n largest now) past after
+    pub goes : GoesOn (packet_leaving size counted eliciting space n largest now) past after
     pub unused : WasSentUnder space n past → ⊥
     pub above : (k : ℕ) → WasSentUnder space k past → k < n
     pub used : WasSentUnder space n after
     pub small : n < number_limit
 
   -- and with an ACK of all numbers that are to be acknowledged
-  pub record SendsWithAck (size counted : ℕ) (space : SpaceId) (n : ℕ) (ranges : List (ℕ × ℕ))
+  pub record SendsWithAck (size counted : ℕ) (eliciting : Bool) (space : SpaceId) (n : ℕ) (ranges : List (ℕ × ℕ))
       (now : ℕ) (past after : History Q S M P) : Type 0 where
-    pub sends : SendsNumber size counted space n (largest_of ranges) now past after
+    pub sends : SendsNumber size counted eliciting space n (largest_of ranges) now past after
     pub acks : (k : ℕ) → IsInAckRanges k ranges → WasReceived space k past
     pub whole : (k : ℕ) → WasReceived space k past → ¬ WasDropped space k past → IsInAckRanges k ranges
 
@@ -309,22 +326,17 @@ abbrev pub NoAccusation : {F Q R C K S M P : Type 0} {f : _} {c : _} {q : _} {m 
 NoAccusation space ranges sender outcome = IsSoundFrame ranges
     → ForEveryPast sender (λ past. WereSentUnder space ranges past → IsSpared outcome)
 
--- an RTT sample is the time since the largest number of the frame was sent, which is newly acknowledged
-pub record IsSince (sent : ℕ → ℕ) (now : ℕ) (ranges : List (ℕ × ℕ)) (numbers : List ℕ) (rtt : ℕ) : Type 0 where
-  pub largest : ℕ
-  pub is_largest : largest_of ranges ≡ Some largest
-  pub newly : IsOneOf largest numbers
-  pub since : rtt ≡ now - sent largest
+-- there is a sample exactly if the frame gives one, by when packets were sent and whether they are ack-eliciting
+abbrev pub GivesSample : (ℕ → ℕ) → (ℕ → Bool) → ℕ → Option ℕ → AckOutcome → Type 0
+GivesSample sent elicits now largest (Taken acked) =
+    acked.rtt ≡ sample_of sent elicits now acked.numbers.items largest
+GivesSample sent elicits now largest outcome = Unit {0}
 
-abbrev pub SamplesSince : (ℕ → ℕ) → ℕ → List (ℕ × ℕ) → AckOutcome → Type 0
-SamplesSince sent now ranges (Taken acked) = IfSome acked.rtt (IsSince sent now ranges acked.numbers.items)
-SamplesSince sent now ranges outcome = Unit {0}
-
--- by each past
+-- by each past in which no other path was made
 abbrev pub SampledBy : {F Q R C K S M P : Type 0} {f : _} {c : _} {q : _} {m : _} {r : _} → SpaceId → ℕ → List (ℕ × ℕ)
     → Sender F Q R C K S M P f c q m r → AckOutcome → Type 0
-SampledBy space now ranges sender outcome =
-    ForEveryPast sender (λ past. SamplesSince (sent_at space past) now ranges outcome)
+SampledBy space now ranges sender outcome = ForEveryPast sender (λ past. paths_made past ≡ 0
+    → GivesSample (sent_at space past) (elicits_by space past) now (largest_of ranges) outcome)
 
 -- what is newly acknowledged is in the frame
 abbrev pub AcksWithin : List (ℕ × ℕ) → AckOutcome → Type 0

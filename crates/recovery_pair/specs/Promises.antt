@@ -7,9 +7,12 @@ use Rattle.recovery_pair.specs.Promises.Arrivals.{ArrivesAsSent}
 use Rattle.recovery_pair.specs.Promises.Delays.{ReportsDelay}
 use Rattle.recovery_pair.specs.Promises.DeliveredOnce.{AcksDelivered}
 use Rattle.recovery_pair.specs.Promises.Excess.{ExceedsByProbes}
+use Rattle.recovery_pair.specs.Promises.Framed.{ArrivesFramed}
 use Rattle.recovery_pair.specs.Promises.LargestAcked.{AcksLargest}
 use Rattle.recovery_pair.specs.Promises.Locals.{AnswersLocally}
 use Rattle.recovery_pair.specs.Promises.NeverAccused.{NeverAccuses}
+use Rattle.recovery_pair.specs.Promises.Newly.{AcksInFlight}
+use Rattle.recovery_pair.specs.Promises.Repeats.{RepeatsWithCause}
 use Rattle.recovery_pair.specs.Promises.Resends.{ResendsWhatIsLost}
 use Rattle.recovery_pair.specs.Promises.RttSamples.{SamplesRoundTrips}
 use Rattle.recovery_pair.specs.Promises.Sends.{SendsWhatWaits}
@@ -19,9 +22,12 @@ pub mod Arrivals
 pub mod Delays
 pub mod DeliveredOnce
 pub mod Excess
+pub mod Framed
 pub mod LargestAcked
 pub mod Locals
 pub mod NeverAccused
+pub mod Newly
+pub mod Repeats
 pub mod Resends
 pub mod RttSamples
 pub mod Sends
@@ -47,17 +53,24 @@ pub record KeepsPromises (validated : Bool) (log : PairLog) (event : PairEvent) 
   -- The ACK delay that an endpoint reports is the time since it received the largest number of the space, as new (RFC
   -- 9000, 13.2.5).
   pub delay : ReportsDelay log event
-  -- The largest number of an ACK frame that an endpoint sends is the largest number that it received in the space (RFC
-  -- 9000, 13.2.3). So the ACK delay is the time since the packet of that number arrived.
+  -- Each packet has an ACK frame up to the largest number that its endpoint received in the space, as new; it has none
+  -- exactly if no number was (RFC 9000, 13.2.1 and 13.2.3). So the ACK delay is the time since that packet arrived.
   pub largest : AcksLargest log event
-  -- An RTT sample is the time since the endpoint sent the packet of the largest number that an ACK frame newly
-  -- acknowledges (RFC 9002, 5.1).
+  -- A new packet has an ACK frame exactly if it was sent with one (RFC 9000, 13.2 and 19.3).
+  pub framed : ArrivesFramed log event
+  -- An ACK frame newly acknowledges its largest number if the packet of that number is in flight (RFC 9002, A.7).
+  pub newly : AcksInFlight log event
+  -- An ACK frame gives an RTT sample exactly if it newly acknowledges its largest number and an ack-eliciting packet.
+  -- The sample is the time since the packet of that largest number was sent (RFC 9002, 5.1).
   pub samples : SamplesRoundTrips log event
-  -- An endpoint has nothing to send in a space only once it has sent there no less than was passed to it, by every
-  -- measure of the items of a packet (RFC 9000, 13).
+  -- Once an endpoint has nothing to send in a space, it has sent there no less than was passed to it (RFC 9000, 13). By
+  -- every measure of the items of a packet.
   pub sends : SendsWhatWaits log event
-  -- Nothing is lost: an endpoint has nothing to send in a space with keys only once it has sent there what was passed
-  -- to it, and once more what it reported as lost, by every measure of items that adds up (RFC 9000, 13.3).
+  -- Nothing is lost (RFC 9000, 13.3). Once an endpoint has nothing to send in a space with keys, it has sent there what
+  -- was passed to it, and once more what it reported as lost. By every measure of items that adds up.
   pub resends : ResendsWhatIsLost log event
+  -- Nothing is sent again without cause (RFC 9000, 13.3; RFC 9002, 6.2.4). An endpoint sends in a space at most what
+  -- was passed to it, what it reported as lost, and what its probes carry. By every measure of items that adds up.
+  pub repeats : RepeatsWithCause (event ∷ log)
   -- A step of one endpoint has an answer of its kind, never another (RFC 9002, 6.2 and 6.4).
   pub local : AnswersLocally event

@@ -7,6 +7,7 @@ use Rattle.recovery_pair.specs.declared.steps.PairAnswer.{PairAnswer}
 use Rattle.recovery_pair.specs.declared.steps.PairStep.{PairStep}
 use Rattle.recovery_pair.specs.declared.steps.WirePacket.{WirePacket}
 use Rattle.recovery_pair.specs.Logs.{PairLog}
+use Rattle.recovery_pair.specs.NoDeadlock.{AreTimed, IfTied}
 use Rattle.recovery_pair.specs.Promises.{KeepsPromises}
 use Rattle.recovery_pair.specs.Tied.{IsTied}
 use Rattle.recovery_pair.specs.Timed.{HaveTimersByEvents}
@@ -60,3 +61,6 @@ module _ {F Q R C K S M : Type 0} {f : _} {c : _} {q : _} {m : _} {r : _}
         server_waits_after
     -- the timer of each endpoint follows the events after each step, so after all
     pub timer_set : HaveTimersByEvents client server → HaveTimersByEvents client_after server_after
+    -- no endpoint is stuck
+    pub unstuck : IfTied client server wire client_waits server_waits (λ validated log.
+        AreTimed validated (log_after log steps answers) client_after server_after)

@@ -3,13 +3,14 @@ use Rattle.std.specs.Prelude.{◌≡◌, ℕ, ◌<◌, ◌≤◌, ◌⊎◌, Boo
 use Rattle.std.specs.List.{AllByRecursion}
 use Rattle.recovery_base.specs.declared.below.SpaceId.{SpaceId}
 use Rattle.recovery_base.specs.Units.{number_limit}
-use Rattle.recovery_losses.specs.Frames.{IsInAckRanges}
+use Rattle.recovery_losses.specs.Frames.{IsInAckRanges, largest_of}
 use Rattle.recovery_history.specs.History.{History}
 use Rattle.recovery_history.specs.Promises.Acknowledged.{WasReceived}
 use Rattle.recovery_history.specs.Promises.Datagrams.{is_validated}
 use Rattle.recovery_history.specs.Promises.NewNumbers.{came_in, is_discarded}
+use Rattle.recovery_history.specs.Promises.Paths.{paths_made}
 use Rattle.recovery_paths.specs.declared.path_pair.PathName.TheVariants.{Current}
-use Rattle.recovery_sender.specs.Promises.Lost.{sent_at}
+use Rattle.recovery_sender.specs.Promises.Lost.{elicits_by, sent_at}
 use Rattle.recovery_sender.specs.declared.sender.Sender.{Sender}
 use Rattle.recovery_pair.specs.declared.endpoint.Waiting.{Waiting}
 use Rattle.recovery_pair.specs.declared.steps.End.{End}
@@ -17,10 +18,10 @@ use Rattle.recovery_pair.specs.declared.steps.End.TheVariants.{Client, Server}
 use Rattle.recovery_pair.specs.declared.steps.WirePacket.{WirePacket}
 use Rattle.recovery_pair.specs.Flights.{Numbers, flight_of, largest_window, no_numbers}
 use Rattle.recovery_pair.specs.Frames.{IsSoundFrame}
-use Rattle.recovery_pair.specs.Logs.{PairLog, LoggedPacket, bytes_arrived, bytes_sent, deliveries_of, has_validated, numbers_at, other_end, sends_of, time_sent, was_discarded, wire_of}
+use Rattle.recovery_pair.specs.Logs.{PairLog, LoggedPacket, bytes_arrived, bytes_sent, deliveries_of, has_validated, is_eliciting, numbers_at, other_end, sends_of, time_sent, was_discarded, wire_of}
 use Rattle.recovery_pair.specs.Carried.{CarriesItems}
 use Rattle.recovery_pair.specs.Waits.{AreQueued}
-use Rattle.recovery_pair.specs.Pasts.{Came, HasPast, WasSentUnder, bytes_received, bytes_transmitted, flight_in, largest_came}
+use Rattle.recovery_pair.specs.Pasts.{Came, HasPast, WasSentUnder, bytes_received, bytes_transmitted, flight_in, largest_came, silent_bytes}
 use Rattle.recovery_pair.specs.Promises.Delays.{largest_new}
 use Rattle.recovery_pair.specs.Rising.{AcksRise}
 
@@ -73,6 +74,7 @@ sent_as packet = record {
   number = packet.number;
   size = packet.size;
   items = packet.items.items;
+  largest = largest_of packet.ranges.items;
 }
 
 -- ---- one end
@@ -82,8 +84,9 @@ abbrev pub validated_first : End → Bool → Bool
 validated_first Client validated = true
 validated_first Server validated = validated
 
--- The log and the history of an endpoint agree on what it received, discarded and validated. The history counts no more
--- bytes as received than arrived, no fewer as transmitted than were sent, and no fewer in flight.
+-- The log and the history of an endpoint agree on what it received, discarded and validated, and on when it sent which
+-- ack-eliciting packets, all on its first path. The history counts no more bytes as received than arrived, no fewer as
+-- transmitted than were sent, and no fewer in flight. All packets that count in flight are ack-eliciting.
 pub record IsLogged {Q S M P : Type 0} (validated : Bool) (log : PairLog) (end : End) (first : Bool)
     (past : History Q S M P) : Type 0 where
   pub came : (space : SpaceId) → came_in space past ≡ numbers_at end space log
@@ -93,7 +96,10 @@ pub record IsLogged {Q S M P : Type 0} (validated : Bool) (log : PairLog) (end :
   pub left : bytes_sent end log ≤ bytes_transmitted past
   pub largest : (space : SpaceId) → largest_came space past ≡ largest_new end space log
   pub times : (space : SpaceId) (n : ℕ) → sent_at space past n ≡ time_sent end space n log
+  pub elicits : (space : SpaceId) (n : ℕ) → elicits_by space past n ≡ is_eliciting end space n log
+  pub paths : paths_made past ≡ 0
   pub flight : (gone : Numbers) → flight_of end (λ window. true) gone log ≤ flight_in gone past
+  pub silent : silent_bytes past ≤ 0
 
 module _ {F Q R C K S M P : Type 0} {f : _} {c : _} {q : _} {m : _} {r : _} where
   -- ---- both ends, as one of them sees it

@@ -26,6 +26,8 @@ use Rattle.recovery_pair.specs.declared.steps.WirePacket.{WirePacket}
 use Rattle.recovery_pair.specs.Flights.{counted_if, ends_by_timer}
 use Rattle.recovery_pair.specs.Frames.{IsSoundFrame}
 use Rattle.recovery_pair.specs.Permits.{FitsChecked, window_checked}
+use Rattle.recovery_pair.specs.Promises.Framed.{HasFrame}
+use Rattle.recovery_pair.specs.Newly.{AcksFlightBy}
 use Rattle.recovery_pair.specs.Pasts.{AcksWithin, Continues, GoesOn, GoesOnQuietly, HearsNumber, NoAccusation, SampledBy, SendsNumber, SendsWithAck, EndTurn, discarding, ending, endings_by_fate, leaving, losing, quiet, validating}
 
 -- a call that may fail
@@ -81,7 +83,7 @@ module _ {F Q R C K S M P : Type 0} {f : _} {c : _} {q : _} {m : _} {r : _} (old
       pub sound : IsSoundFrame packet.ranges.items
       pub fits : FitsChecked old size window
       pub waited : packet.delay ≡ delay_at now (acks_of (space_of space (state_in old).spaces)).counts.largest
-      pub goes : Continues (SendsWithAck size (counted_if packet.eliciting size) space packet.number
+      pub goes : Continues (SendsWithAck size (counted_if packet.eliciting size) packet.eliciting space packet.number
           packet.ranges.items now) old new
 
     -- a packet is packed with these ranges
@@ -95,7 +97,7 @@ module _ {F Q R C K S M P : Type 0} {f : _} {c : _} {q : _} {m : _} {r : _} (old
       pub delays : packet.delay ≡ delay
       pub elicits : packet.eliciting ≡ eliciting
       pub window_is : window ≡ checked
-      pub goes : Continues (SendsNumber 0 (counted_if eliciting size) space packet.number (largest_of ranges)
+      pub goes : Continues (SendsNumber 0 (counted_if eliciting size) eliciting space packet.number (largest_of ranges)
           now) old new
 
     abbrev pub PackTurn : End → SpaceId → ℕ → ℕ → Bool → Option ℕ → List (ℕ × ℕ) → ℕ → Outgoing → Type 0
@@ -113,7 +115,9 @@ module _ {F Q R C K S M P : Type 0} {f : _} {c : _} {q : _} {m : _} {r : _} (old
       pub told : items.items ≡ packet.items.items
       pub honest : NoAccusation packet.space packet.ranges.items old acked
       pub within : AcksWithin packet.ranges.items acked
+      pub framed : HasFrame (largest_of packet.ranges.items) acked
       pub sampled : SampledBy packet.space now packet.ranges.items old acked
+      pub newly : AcksFlightBy packet.space packet.ranges.items old acked
 
     abbrev pub IfNew : WirePacket → ℕ → Fate → Type 0
     IfNew packet now (New items acked) = TakesPacket packet now items acked

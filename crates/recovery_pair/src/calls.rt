@@ -3,8 +3,13 @@ ghost use Rattle.std.specs.Prelude.{◌≡◌, ◌≢◌, [], ◌∷◌, true, I
 ghost use Rattle.recovery_pair.specs.Carried.{Carries, CarriesNone, losing, lost_by_ack, lost_by_timeout, sending_with, taking};
 ghost use Rattle.recovery_pair.specs.Flights.{counted_if};
 ghost use Rattle.recovery_pair.specs.Frames.{IsFrameFor};
+ghost use Rattle.recovery_losses.specs.Frames.{largest_of};
+ghost use Rattle.recovery_pair.specs.LeastWindows.{IsLeastIf, KeepsLeastWindow, persists_by_ack, persists_by_timeout};
+ghost use Rattle.recovery_pair.specs.Newly.{AcksFlightBy};
 ghost use Rattle.recovery_pair.specs.Pasts.{Continues, GoesOn, GoesOnQuietly, HearsNumber, NoAccusation, SampledBy, SendsNumber, AcksWithin, arm_told, arriving, discarding, ending, endings_by_ack, heard_of, no_endings, validating};
+ghost use Rattle.recovery_pair.specs.Promises.Framed.{HasFrame};
 ghost use Rattle.recovery_pair.specs.Permits.{FitsChecked, said_by, window_checked};
+ghost use Rattle.recovery_pair.specs.Promises.Repeats.{is_probe};
 ghost use Rattle.recovery_pair.specs.Timed.{KeepsTimer};
 ghost use Rattle.recovery_pair.specs.Turns.{FitsIfPermitted, TransmitTurn, TriesTurn, timeout_turn};
 
@@ -118,10 +123,18 @@ where
     sender.transmit(now, size, space, eliciting)
 }
 
-/// Takes what waits to be repeated in a space, or the contents of a probe if one is due.
+/// Returns whether a packet is a probe: it counts in flight, and no window was checked for it.
+pub(crate) fn is_probe(eliciting: bool, window: &Option<u64>) -> bool
+    ensures { result ≡ is_probe eliciting window.now }
+{
+    eliciting && window.is_none()
+}
+
+/// Takes what waits to be repeated in a space. For a probe, takes the contents of a packet in flight if nothing waits.
 pub(crate) fn contents<F, R>(
     sender: &mut Sender<F, ItemQueue, R>,
     space: SpaceId,
+    probe: bool,
 ) -> Result<ItemQueue, SenderError>
 where
     F: ControllerFactory,
@@ -129,10 +142,10 @@ where
     ensures goes { Continues GoesOnQuietly sender.old sender.new }
     ensures timer { KeepsTimer sender.old sender.new }
     ensures items { MatchResult result
-        (λ queue. Carries (taking space queue) sender.old sender.new)
+        (λ queue. Carries (taking probe space queue) sender.old sender.new)
         (λ refused. CarriesNone sender.old sender.new) }
 {
-    if sender.variables().is_probe_due(space) {
+    if probe {
         return sender.probe(space, false, ());
     }
     match sender.on_event(Event::TakePending { space }) {
@@ -163,8 +176,8 @@ where
     F: ControllerFactory,
     R: Rng + Drop,
     ensures goes { MatchResult result
-        (λ number. Continues (SendsNumber 0 (counted_if eliciting size) space number largest
-        now) sender.old sender.new)
+        (λ number. Continues (SendsNumber 0 (counted_if eliciting size) eliciting space number
+        largest now) sender.old sender.new)
         (λ refused. Continues GoesOnQuietly sender.old sender.new) }
     ensures timer { KeepsTimer sender.old sender.new }
     ensures items { MatchResult result
@@ -199,6 +212,7 @@ where
     ensures goes { Continues GoesOnQuietly sender.old sender.new }
     ensures timer { KeepsTimer sender.old sender.new }
     ensures items { CarriesNone sender.old sender.new }
+    ensures least { KeepsLeastWindow sender.old sender.new }
 {
     let _ = sender.on_event(Event::AckDelayTimeout { space });
 }
@@ -269,9 +283,12 @@ where
         sender.old sender.new }
     ensures honest { NoAccusation packet.now.space packet.now.ranges.items sender.old result }
     ensures within { AcksWithin packet.now.ranges.items result }
+    ensures framed { HasFrame (largest_of packet.now.ranges.items) result }
     ensures sampled { SampledBy packet.now.space now packet.now.ranges.items sender.old result }
+    ensures newly { AcksFlightBy packet.now.space packet.now.ranges.items sender.old result }
     ensures timer { KeepsTimer sender.old sender.new }
     ensures items { Carries (losing (lost_by_ack packet.now.space result)) sender.old sender.new }
+    ensures least { IsLeastIf (persists_by_ack result) sender.new }
 {
     if packet.ranges.is_empty() {
         return AckOutcome::NoFrame;
@@ -298,6 +315,7 @@ where
     ensures goes { Continues (GoesOn (timeout_turn result)) sender.old sender.new }
     ensures timer { KeepsTimer sender.old sender.new }
     ensures items { Carries (losing (lost_by_timeout result)) sender.old sender.new }
+    ensures least { IsLeastIf (persists_by_timeout result) sender.new }
 {
     sender.on_timeout(now)
 }

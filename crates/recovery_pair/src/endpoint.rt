@@ -1,7 +1,8 @@
 //! An endpoint of a connection: a sender with its caller.
-ghost use Rattle.std.specs.Prelude.{◌≡◌, ◌+◌, ◌<◌, ◌≤◌, ℕ, List, IfOk, MatchResult, None, Ok, false, length, [], ◌∷◌, ◌++◌};
+ghost use Rattle.std.specs.Prelude.{◌≡◌, ◌⊎◌, ◌+◌, ◌<◌, ◌≤◌, ℕ, List, IfOk, MatchResult, None, Ok, false, length, [], ◌∷◌, ◌++◌};
 ghost use Rattle.std.specs.Vec.{vec_len, vec_capacity};
-ghost use Rattle.recovery_pair.specs.Carried.{CarriesNone, Exchanges, MovesItems, MovesNone, MovesSent, TakesItems, hands_by, lost_by_fate, lost_by_local, none_lost};
+ghost use Rattle.recovery_pair.specs.Carried.{CarriesNone, Exchanges, IsNoProbe, MovesBack, MovesItems, MovesSent, TakesItems, hands_by, lost_by_fate, lost_by_local, none_lost};
+ghost use Rattle.recovery_pair.specs.LeastWindows.{IsLeastIf, KeepsLeastWindow, persists_by_fate, persists_by_timer};
 ghost use Rattle.recovery_pair.specs.Pasts.{Continues, GoesOn, GoesOnQuietly};
 ghost use Rattle.recovery_pair.specs.Turns.{HearTurn, PackTurn, SendTurn, local_turn};
 ghost use Rattle.recovery_pair.specs.Permits.{IsIdle, PermitsOutcome};
@@ -11,7 +12,7 @@ ghost use Rattle.recovery_pair.specs.Waits.{GainsOne, HandWaits, IsPlaceInQueue,
 
 use crate::calls::{
     AckToSend, NO_MEMORY, confirm, contents, copied, datagram, discard, end_acks, end_delay,
-    expire, frame, get_keys, hear, hear_ack, track, transmit, validate, window_checked,
+    expire, frame, get_keys, hear, hear_ack, is_probe, track, transmit, validate, window_checked,
 };
 use crate::steps::{End, Fate, LocalStep, PairAnswer, WirePacket};
 use rand_core::Rng;
@@ -83,6 +84,7 @@ fn take_waiting(waiting: &mut Vec<Waiting>, space: SpaceId, repeated: ItemQueue)
     ensures len { vec_len waiting.new ≤ vec_len waiting.old }
     ensures capacity { vec_capacity waiting.new ≡ vec_capacity waiting.old }
     ensures items { Exchanges waiting.old.items waiting.new.items space repeated result }
+    ensures first { (repeated ≡ []) ⊎ (result ≡ repeated) }
 {
     if !repeated.items().is_empty() {
         return repeated;
@@ -184,7 +186,8 @@ where
         ensures items { MovesSent space (Ok result) (self.old.sender, self.old.waiting.items)
             (self.new.sender, self.new.waiting.items) }
     {
-        let TakenItems { queue, items, told } = match self.take_items(alloc, space) {
+        let probe = is_probe(eliciting, &window);
+        let TakenItems { queue, items, told } = match self.take_items(alloc, space, probe) {
             Ok(taken) => taken,
             Err(refused) => return Outgoing::Failed(refused),
         };
@@ -221,7 +224,12 @@ where
 
     /// Takes the items of the next packet of a space, with two copies. If that fails, they wait to be sent.
     #[tactic(auto, using(crate::proofs::WaitLaws::kept_again))]
-    fn take_items(&mut self, alloc: Global, space: SpaceId) -> Result<TakenItems, SenderError>
+    fn take_items(
+        &mut self,
+        alloc: Global,
+        space: SpaceId,
+        probe: bool,
+    ) -> Result<TakenItems, SenderError>
         requires room { vec_len self.old.waiting < vec_capacity self.old.waiting }
         ensures room { IfOk result
             (λ taken. vec_len self.new.waiting < vec_capacity self.new.waiting) }
@@ -233,12 +241,12 @@ where
             (λ refused. LosesNone self.old.waiting.items self.new.waiting.items) }
         ensures timer { KeepsTimer self.old.sender self.new.sender }
         ensures items { MatchResult result
-            (λ taken. TakesItems space taken.queue (self.old.sender, self.old.waiting.items)
+            (λ taken. TakesItems probe space taken.queue (self.old.sender, self.old.waiting.items)
             (self.new.sender, self.new.waiting.items))
-            (λ refused. MovesNone (self.old.sender, self.old.waiting.items)
+            (λ refused. MovesBack space (self.old.sender, self.old.waiting.items)
             (self.new.sender, self.new.waiting.items)) }
     {
-        let repeated = match contents(&mut self.sender, space) {
+        let repeated = match contents(&mut self.sender, space, probe) {
             Ok(queue) => queue,
             Err(refused) => return Err(refused),
         };
@@ -294,9 +302,10 @@ where
         ensures goes { HearTurn self.old.sender self.new.sender packet.now now result }
         ensures waits { LosesNone self.old.waiting.items self.new.waiting.items }
         ensures timer { KeepsTimer self.old.sender self.new.sender }
-        ensures items { MovesItems None None (lost_by_fate packet.now.space result)
+        ensures items { MovesItems None None (lost_by_fate packet.now.space result) IsNoProbe
             (self.old.sender, self.old.waiting.items)
             (self.new.sender, self.new.waiting.items) }
+        ensures least { IsLeastIf (persists_by_fate result) self.new.sender }
     {
         let items = match copied(alloc, &packet.items) {
             Ok(items) => items,
@@ -329,6 +338,7 @@ where
         ensures timer { KeepsTimer self.old.sender self.new.sender }
         ensures items { CarriesNone self.old.sender self.new.sender }
         ensures waits { self.new.waiting.items ≡ self.old.waiting.items }
+        ensures least { KeepsLeastWindow self.old.sender self.new.sender }
     {
         if arm && space == SpaceId::Data {
             let delay = self.sender.recovery().ack_frequency().max_ack_delay;
@@ -343,7 +353,7 @@ where
         ensures goes { self.new.sender ≡ self.old.sender }
         ensures answer { IfOk result IsDone }
         ensures items { MovesItems (hands_by (LocalStep.Hand space items) result) None none_lost
-            (self.old.sender, self.old.waiting.items)
+            IsNoProbe (self.old.sender, self.old.waiting.items)
             (self.new.sender, self.new.waiting.items) }
         ensures waits { HandWaits self.old.waiting.items self.new.waiting.items space items.items
             result }
@@ -365,9 +375,10 @@ where
         ensures answer { IfOk result (IsLocalAnswer step) }
         ensures waits { LocalWaits self.old.waiting.items self.new.waiting.items step result }
         ensures timer { KeepsTimer self.old.sender self.new.sender }
-        ensures items { MovesItems (hands_by step result) None (lost_by_local step result)
+        ensures items { MovesItems (hands_by step result) None (lost_by_local step result) IsNoProbe
             (self.old.sender, self.old.waiting.items)
             (self.new.sender, self.new.waiting.items) }
+        ensures least { IsLeastIf (persists_by_timer result) self.new.sender }
     {
         match step {
             LocalStep::Hand { space, items } => self.hand(space, items),

@@ -2,7 +2,9 @@
 ghost use Rattle.std.specs.Prelude.{◌≡◌, ◌≤◌, [], ◌∷◌, IfOk, None};
 ghost use Rattle.recovery_base.specs.Units.{number_limit};
 ghost use Rattle.recovery_packet_numbers.specs.Skips.{IsSkips};
-ghost use Rattle.recovery_pair.specs.Carried.{MovesItems, MovesSent, hands_by, lost_by_fate, lost_by_local};
+ghost use Rattle.recovery_pair.specs.Carried.{IsNoProbe, MovesItems, MovesSent, hands_by, lost_by_fate, lost_by_local};
+ghost use Rattle.recovery_pair.specs.LeastWindows.{AreLeastAfter, IsLeastIf, persists_by_fate, persists_by_timer};
+ghost use Rattle.recovery_pair.specs.NoDeadlock.{HoldsWithCause, IfTied, NeverStuck};
 ghost use Rattle.recovery_pair.specs.Pasts.{Continues, GoesOn};
 ghost use Rattle.recovery_pair.specs.Permits.{HoldsAt, PermitsAnswer, PermitsOutcome, SendsAsPermitted};
 ghost use Rattle.recovery_pair.specs.Promises.Locals.{IsLocalAnswer};
@@ -99,11 +101,14 @@ where
         server.new.waiting.items }
     ensures timer { TurnsAt to KeepsTimer client.old.sender server.old.sender client.new.sender
         server.new.sender }
-    ensures items { TurnsAt to (MovesItems None None (lost_by_fate packet.now.space result))
+    ensures items { TurnsAt to
+        (MovesItems None None (lost_by_fate packet.now.space result) IsNoProbe)
         (client.old.sender, client.old.waiting.items)
         (server.old.sender, server.old.waiting.items)
         (client.new.sender, client.new.waiting.items)
         (server.new.sender, server.new.waiting.items) }
+    ensures least { TurnsAt to (λ old new. IsLeastIf (persists_by_fate result) new)
+        client.old.sender server.old.sender client.new.sender server.new.sender }
 {
     match to {
         End::Client => client.hear(alloc, packet, now),
@@ -129,11 +134,14 @@ where
         server.new.waiting.items }
     ensures timer { TurnsAt end KeepsTimer client.old.sender server.old.sender client.new.sender
         server.new.sender }
-    ensures items { TurnsAt end (MovesItems (hands_by step result) None (lost_by_local step result))
+    ensures items { TurnsAt end
+        (MovesItems (hands_by step result) None (lost_by_local step result) IsNoProbe)
         (client.old.sender, client.old.waiting.items)
         (server.old.sender, server.old.waiting.items)
         (client.new.sender, client.new.waiting.items)
         (server.new.sender, server.new.waiting.items) }
+    ensures least { TurnsAt end (λ old new. IsLeastIf (persists_by_timer result) new)
+        client.old.sender server.old.sender client.new.sender server.new.sender }
 {
     match end {
         End::Client => client.local(step),
@@ -188,6 +196,15 @@ where
         // The timer of each endpoint follows the events (RFC 9002, 6.2.1, 6.2.2.1 and A.8).
         ensures timer_set { HaveTimersByEvents self.old.client.sender self.old.server.sender
             → HaveTimersByEvents self.new.client.sender self.new.server.sender }
+
+        // No endpoint is stuck: while bytes are in flight its timer is set, and the window holds a datagram back only
+        // then (RFC 9002, 6.2 and 7).
+        ensures unstuck { NeverStuck self.old.client.sender self.old.server.sender
+            self.old.wire.items self.old.client.waiting.items self.old.server.waiting.items step
+            result self.new.client.sender self.new.server.sender }
+
+        // Persistent congestion leaves the smallest window (RFC 9002, 7.6.2).
+        ensures least { AreLeastAfter (step, result) self.new.client.sender self.new.server.sender }
     {
         match step {
             PairStep::Send {
@@ -218,6 +235,11 @@ where
             self.old.client.sender self.old.server.sender }
         ensures timer_set { HaveTimersByEvents self.old.client.sender self.old.server.sender
             → HaveTimersByEvents self.new.client.sender self.new.server.sender }
+        ensures held { IfTied self.old.client.sender self.old.server.sender self.old.wire.items
+            self.old.client.waiting.items self.old.server.waiting.items
+            (λ validated log. HoldsWithCause self.old.client.sender self.old.server.sender
+            self.new.client.sender self.new.server.sender validated log
+            (PairStep.Send end space now size, result)) }
     {
         match self.wire.reserve(1) {
             Ok(()) => {}
@@ -260,6 +282,8 @@ where
             self.new.wire.items self.new.client.waiting.items self.new.server.waiting.items }
         ensures timer_set { HaveTimersByEvents self.old.client.sender self.old.server.sender
             → HaveTimersByEvents self.new.client.sender self.new.server.sender }
+        ensures least { AreLeastAfter (PairStep.Arrive at now, result) self.new.client.sender
+            self.new.server.sender }
     {
         let Some(packet) = self.wire.get(at) else {
             return Ok(PairAnswer::Nothing);
@@ -292,6 +316,8 @@ where
             self.new.wire.items self.new.client.waiting.items self.new.server.waiting.items }
         ensures timer_set { HaveTimersByEvents self.old.client.sender self.old.server.sender
             → HaveTimersByEvents self.new.client.sender self.new.server.sender }
+        ensures least { AreLeastAfter (PairStep.Local end step, result) self.new.client.sender
+            self.new.server.sender }
     {
         local_at(&mut self.client, &mut self.server, end, step)
     }

@@ -14,7 +14,7 @@ use Rattle.recovery_pair.specs.declared.steps.Fate.TheVariants.{Dropped, Duplica
 use Rattle.recovery_pair.specs.declared.steps.PairAnswer.{PairAnswer}
 use Rattle.recovery_pair.specs.declared.steps.PairAnswer.TheVariants.{Arrived, Nothing}
 use Rattle.recovery_pair.specs.declared.steps.PairStep.TheVariants.{Arrive}
-use Rattle.recovery_pair.specs.Logs.{IsAt, PairEvent, PairLog, deliveries_of, numbers_at, other_end, was_discarded, wire_of}
+use Rattle.recovery_pair.specs.Logs.{IsAt, LoggedPacket, PairEvent, PairLog, deliveries_of, numbers_at, other_end, was_discarded, wire_of}
 
 -- its fate, by whether its space was discarded, and whether its number is new
 abbrev pub IsFateBy : Bool → Bool → Fate → Type 0
@@ -35,11 +35,11 @@ IsFirstDelivery before (New told acked) = before ≡ []
 IsFirstDelivery before fate = Unit {0}
 
 pub record IsArrival (log : PairLog) (at : ℕ) (to : End) (there : SpaceId) (n bytes : ℕ) (fate : Fate) : Type 0 where
-  pub contents : List ℕ
-  pub sent : IsAt (wire_of log) at
-      (record { from = other_end to; space = there; number = n; size = bytes; items = contents })
+  pub packet : LoggedPacket
+  pub sent : IsAt (wire_of log) at packet
+  pub same : (packet.from ≡ other_end to) × (packet.space ≡ there) × (packet.number ≡ n) × (packet.size ≡ bytes)
   pub fated : IsFateBy (was_discarded to there log) (is_new (numbers_at to there log) n) fate
-  pub delivers : Delivers contents fate
+  pub delivers : Delivers packet.items fate
   pub once : IsFirstDelivery (deliveries_of to there n log) fate
 
 -- the answer for a position: nothing exactly if the wire has no such packet

@@ -1,6 +1,6 @@
--- Nothing is lost (RFC 9000, 13.3). An endpoint has nothing to send in a space with keys only once it has sent there
--- all that was passed to it, and once more what it sent in each packet that it reported as lost. So each item that was
--- passed is in a packet that was not reported as lost: it is in flight, or delivered. By every measure that adds up.
+-- Nothing is lost (RFC 9000, 13.3). Once an endpoint has nothing to send in a space with keys, it has sent there all
+-- that was passed to it. It has sent once more what was in packets that it reported as lost. So each item is in a
+-- packet that was not reported as lost: it is in flight, or delivered. By every measure that adds up.
 use Rattle.std.specs.Prelude.{◌≡◌, ℕ, ◌+◌, ◌≤◌, false, List, [], ◌∷◌, ◌++◌, option_to_list, Ok, if◌then◌else◌}
 use Rattle.recovery_base.specs.declared.below.SpaceId.{SpaceId}
 use Rattle.recovery_base.specs.Spaces.{same_space}

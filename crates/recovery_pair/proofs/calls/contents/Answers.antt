@@ -5,8 +5,8 @@ use Rattle.recovery_pair.proofs.TimedLaws.{event_timer, probe_timer}
 use Rattle.recovery_pair.proofs.ItemLaws.{failed_carries, pending_carries, probe_matches}
 use Rattle.recovery_pair.proofs.calls.contents.Goals as goal
 
-pub returns-then-is_probe_due-clause-goes : goal.returns-then-is_probe_due-clause-goes
-returns-then-is_probe_due-clause-goes g c = probe_quietly c.args.space false tt c.args.sender.now c.probe.new.self
+pub returns-then-probe-clause-goes : goal.returns-then-probe-clause-goes
+returns-then-probe-clause-goes g c = probe_quietly c.args.space false tt c.args.sender.now c.probe.new.self
     c.probe.result
     c.probe.ensures
 
@@ -20,8 +20,8 @@ returns-in-Err-clause-goes g c = pending_quietly c.args.space c.args.sender.now 
     c.on_event.result
     c.on_event.ensures
 
-pub returns-then-is_probe_due-clause-timer : goal.returns-then-is_probe_due-clause-timer
-returns-then-is_probe_due-clause-timer g c = probe_timer c.args.sender.now c.probe.new.self c.args.space false tt
+pub returns-then-probe-clause-timer : goal.returns-then-probe-clause-timer
+returns-then-probe-clause-timer g c = probe_timer c.args.sender.now c.probe.new.self c.args.space false tt
     c.probe.result c.probe.ensures
 
 pub returns-in-Ok-Queue-clause-timer : goal.returns-in-Ok-Queue-clause-timer
@@ -33,13 +33,13 @@ returns-in-Err-clause-timer g c = event_timer c.args.sender.now c.on_event.new.s
     refl c.on_event.result c.on_event.ensures
 
 pub returns-in-Ok-Queue-clause-items : goal.returns-in-Ok-Queue-clause-items
-returns-in-Ok-Queue-clause-items g c = pending_carries c.args.space c.in-Ok-Queue.queue c.args.sender.now
-    c.on_event.new.self (rw c.in-Ok-Queue.field-0-is at c.in-Ok-Queue.ensures)
+returns-in-Ok-Queue-clause-items g c = rw c.if-probe.false (pending_carries c.args.space c.in-Ok-Queue.queue
+    c.args.sender.now c.on_event.new.self (rw c.in-Ok-Queue.field-0-is at c.in-Ok-Queue.ensures))
 
 pub returns-in-Err-clause-items : goal.returns-in-Err-clause-items
 returns-in-Err-clause-items g c = failed_carries (TakePending c.args.space) c.args.sender.now c.on_event.new.self
     (λ refusal. tt) c.in-Err.refused c.in-Err.ensures
 
-pub returns-then-is_probe_due-clause-items : goal.returns-then-is_probe_due-clause-items
-returns-then-is_probe_due-clause-items g c = probe_matches c.args.space false tt c.probe.result c.args.sender.now
-    c.probe.new.self c.probe.ensures
+pub returns-then-probe-clause-items : goal.returns-then-probe-clause-items
+returns-then-probe-clause-items g c = rw c.if-probe.true (probe_matches c.args.space false tt c.probe.result
+    c.args.sender.now c.probe.new.self c.probe.ensures)

@@ -3,6 +3,7 @@ use Rattle.std.proofs.Common.{refl}
 use Rattle.recovery_events.specs.declared.event.Event.TheVariants.{AckDelayTimeout}
 use Rattle.recovery_pair.proofs.TimedLaws.{event_timer}
 use Rattle.recovery_pair.proofs.ItemLaws.{event_carries}
+use Rattle.recovery_pair.proofs.LeastLaws.{event_least}
 use Rattle.recovery_pair.proofs.calls.end_delay.Goals as goal
 
 pub returns-clause-goes : goal.returns-clause-goes
@@ -16,4 +17,8 @@ returns-clause-timer g c = event_timer c.args.sender.now c.on_event.new.self (Ac
 pub returns-clause-items : goal.returns-clause-items
 returns-clause-items g c = event_carries (AckDelayTimeout c.args.space) c.args.sender.now c.on_event.new.self
     (λ reply. tt) refl
+    c.on_event.result c.on_event.ensures
+
+pub returns-clause-least : goal.returns-clause-least
+returns-clause-least g c = event_least c.args.sender.now c.on_event.new.self (AckDelayTimeout c.args.space) refl refl
     c.on_event.result c.on_event.ensures

@@ -1,6 +1,7 @@
 use Rattle.recovery_pair.proofs.QuietLaws.{timeout_ending}
 use Rattle.recovery_pair.proofs.TimedLaws.{timeout_timer}
 use Rattle.recovery_pair.proofs.ItemLaws.{timeout_carries}
+use Rattle.recovery_pair.proofs.LeastLaws.{timeout_least}
 use Rattle.recovery_pair.proofs.calls.expire.Goals as goal
 
 pub returns-clause-goes : goal.returns-clause-goes
@@ -14,3 +15,7 @@ returns-clause-timer g c = timeout_timer c.args.sender.now c.on_timeout.new.self
 pub returns-clause-items : goal.returns-clause-items
 returns-clause-items g c = timeout_carries c.args.now c.args.sender.now c.on_timeout.new.self c.on_timeout.result
     c.on_timeout.ensures.comes
+
+pub returns-clause-least : goal.returns-clause-least
+returns-clause-least g c = timeout_least c.args.sender.now c.on_timeout.new.self g.met.F.Controller.Controller.laws
+    g.met.F.ControllerFactory.starts_by_now c.args.now c.on_timeout.result c.on_timeout.ensures.comes

@@ -1,9 +1,12 @@
 use Rattle.std.proofs.Common.{ℕ, List, None, false, Err, Ok, refl, subst}
 use Rattle.recovery_sender.specs.Acking.{AckResult}
-use Rattle.recovery_pair.proofs.HonestLaws.{refused_spared, some_items, taken_sampled, taken_within}
+use Rattle.recovery_pair.proofs.HonestLaws.{has_largest, no_largest, refused_spared, some_items, taken_within}
 use Rattle.recovery_pair.proofs.QuietLaws.{ack_ending, same_quietly, within_any}
 use Rattle.recovery_pair.proofs.TimedLaws.{ack_timer, same_timer}
+use Rattle.recovery_pair.proofs.NewlyLaws.{taken_flight}
+use Rattle.recovery_pair.proofs.SampleLaws.{taken_sampled}
 use Rattle.recovery_pair.proofs.ItemLaws.{ack_carries, same_carries}
+use Rattle.recovery_pair.proofs.LeastLaws.{ack_least}
 use Rattle.recovery_pair.proofs.calls.hear_ack.Goals as goal
 
 pub returns-in-Ok-clause-goes : goal.returns-in-Ok-clause-goes
@@ -27,6 +30,22 @@ pub returns-in-Ok-clause-sampled : goal.returns-in-Ok-clause-sampled
 returns-in-Ok-clause-sampled g c = rw (← c.deref.ensures.value)
     (taken_sampled c.args.packet.now.space c.args.now _ _ c.args.sender.now c.on_ack.new.self c.in-Ok.acknowledged
     c.in-Ok.ensures)
+
+pub returns-in-Ok-clause-newly : goal.returns-in-Ok-clause-newly
+returns-in-Ok-clause-newly g c = rw (← c.deref.ensures.value)
+    (taken_flight c.args.packet.now.space c.args.now _ _ c.args.sender.now c.on_ack.new.self c.in-Ok.acknowledged
+    c.in-Ok.ensures)
+
+pub returns-then-is_empty-clause-framed : goal.returns-then-is_empty-clause-framed
+returns-then-is_empty-clause-framed g c = no_largest c.args.packet.now.ranges c.if-is_empty.ensures
+
+pub returns-in-Ok-clause-framed : goal.returns-in-Ok-clause-framed
+returns-in-Ok-clause-framed g c = has_largest c.args.packet.now.ranges.items
+    (some_items c.args.packet.now.ranges c.if-is_empty.ensures)
+
+pub returns-in-Err-clause-framed : goal.returns-in-Err-clause-framed
+returns-in-Err-clause-framed g c = has_largest c.args.packet.now.ranges.items
+    (some_items c.args.packet.now.ranges c.if-is_empty.ensures)
 
 pub returns-in-Err-clause-honest : goal.returns-in-Err-clause-honest
 returns-in-Err-clause-honest g c =
@@ -53,3 +72,7 @@ returns-then-is_empty-clause-items g c = same_carries c.args.sender.now c.args.s
 
 pub returns-in-Err-clause-items : goal.returns-in-Err-clause-items
 returns-in-Err-clause-items g c = same_carries c.args.sender.now c.on_ack.new.self c.in-Err.ensures.0
+
+pub returns-in-Ok-clause-least : goal.returns-in-Ok-clause-least
+returns-in-Ok-clause-least g c = ack_least c.args.sender.now c.on_ack.new.self c.args.packet.now.space c.args.now _ _
+    c.in-Ok.acknowledged c.in-Ok.ensures

@@ -1,4 +1,4 @@
-use Rattle.std.proofs.Common.{ℕ, refl, subst, ap, ◌∙◌}
+use Rattle.std.proofs.Common.{ℕ, refl, sym, subst, ap, ◌∙◌}
 use Rattle.recovery_pair.specs.Flights.{counted_if}
 use Rattle.recovery_pair.specs.Pasts.{Continues, SendsNumber}
 use Rattle.recovery_pair.proofs.PacketLaws.{counted_once, sends_by_call}
@@ -10,12 +10,13 @@ use Rattle.recovery_pair.proofs.calls.track.Goals as goal
 
 pub returns-in-Ok-Sent-clause-goes : goal.returns-in-Ok-Sent-clause-goes
 returns-in-Ok-Sent-clause-goes g c =
-    subst (λ (counted : ℕ). Continues (SendsNumber 0 counted c.args.space c.in-Ok-Sent.number c.args.largest
-    c.args.now) c.args.sender.now c.send.new.self)
+    subst (λ (counted : ℕ). Continues (SendsNumber 0 counted c.args.eliciting c.args.space c.in-Ok-Sent.number
+    c.args.largest c.args.now) c.args.sender.now c.send.new.self)
     (ap (counted_if c.args.eliciting) c.counted_if-counted.ensures ∙ counted_once c.args.eliciting c.args.size)
     (sends_by_call c.args.space c.args.now c.counted_if-counted.result c.args.eliciting c.args.largest c.args.queue _ _
-    _
-    _ c.args.sender.now c.send.new.self (rw c.in-Ok-Sent.field-0-is at c.in-Ok-Sent.ensures))
+    _ _ c.args.sender.now c.send.new.self
+    (ap (counted_if c.args.eliciting) c.counted_if-counted.ensures ∙ counted_once c.args.eliciting c.args.size
+    ∙ sym c.counted_if-counted.ensures) (rw c.in-Ok-Sent.field-0-is at c.in-Ok-Sent.ensures))
 
 pub returns-in-Err-clause-goes : goal.returns-in-Err-clause-goes
 returns-in-Err-clause-goes g c = unsent_quietly c.args.space c.args.now _ c.args.eliciting c.args.largest c.args.queue _

@@ -1,3 +1,4 @@
+use Rattle.std.proofs.Common.{inl, inr, refl}
 use Rattle.recovery_pair.proofs.WaitLaws.{removed_one}
 use Rattle.recovery_pair.proofs.ItemMoves.{none_to_repeat, one_exchanged}
 use Rattle.recovery_pair.proofs.endpoint.take_waiting.Goals as goal
@@ -15,3 +16,13 @@ returns-in-Some-clause-items c =
     c.remove.result
     (none_to_repeat c.args.repeated c.items.result.now c.items.ensures c.if-not-is_empty.ensures) place.0 (place.1
     c.remove.result) c.remove.ensures.value c.remove.ensures.items
+
+pub returns-then-not-is_empty-clause-first : goal.returns-then-not-is_empty-clause-first
+returns-then-not-is_empty-clause-first c = inr refl
+
+pub returns-in-Some-clause-first : goal.returns-in-Some-clause-first
+returns-in-Some-clause-first c =
+    inl (none_to_repeat c.args.repeated c.items.result.now c.items.ensures c.if-not-is_empty.ensures)
+
+pub returns-in-None-clause-first : goal.returns-in-None-clause-first
+returns-in-None-clause-first c = inr refl

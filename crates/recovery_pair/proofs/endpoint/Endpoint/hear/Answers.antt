@@ -11,7 +11,8 @@ returns-in-Ok-Some-clause-goes g c = heard_turn c.args.now c.args.packet.now c.i
     (c.in-Ok.ensures ∙ c.deref.ensures.value) c.in-Ok-datagram.ensures.goes
     (rw c.in-Ok-Some.field-0-is at c.in-Ok-Some.ensures.goes) c.hear_ack-acked.ensures.goes
     c.hear_ack-acked.ensures.honest
-    c.hear_ack-acked.ensures.within c.hear_ack-acked.ensures.sampled c.plan_ack.ensures.goes
+    c.hear_ack-acked.ensures.within c.hear_ack-acked.ensures.framed c.hear_ack-acked.ensures.sampled
+    c.hear_ack-acked.ensures.newly c.plan_ack.ensures.goes
 
 pub returns-in-Ok-None-clause-goes : goal.returns-in-Ok-None-clause-goes
 returns-in-Ok-None-clause-goes g c = record {
@@ -56,3 +57,7 @@ pub returns-in-Err-hear-clause-items : goal.returns-in-Err-hear-clause-items
 returns-in-Err-hear-clause-items g c = calls_move _ c.args.self.now.sender c.hear.new.sender
     c.args.self.now.waiting.items c.args.self.now.waiting.items (carries_then _ c.args.self.now.sender
     c.datagram.new.sender c.hear.new.sender c.in-Ok-datagram.ensures.items c.in-Err-hear.ensures.items) refl
+
+pub returns-in-Ok-Some-clause-least : goal.returns-in-Ok-Some-clause-least
+returns-in-Ok-Some-clause-least g c = λ persistent. c.plan_ack.ensures.least
+    (c.hear_ack-acked.ensures.least persistent)

@@ -20,13 +20,14 @@ returns-in-Ok-track-clause-goes g c =
       delays = refl;
       elicits = refl;
       window_is = refl;
-      goes = quietly_sends (counted_if c.args.eliciting c.args.size) c.args.space c.in-Ok-track.number
+      goes = quietly_sends (counted_if c.args.eliciting c.args.size) c.args.eliciting c.args.space c.in-Ok-track.number
           (largest_of c.args.ack.ranges.items) c.args.now c.args.self.now.sender c.take_items.new.self.sender
           c.end_acks.new.self.sender c.in-Ok.ensures.goes (sends_quietly (counted_if c.args.eliciting c.args.size)
-          c.args.space c.in-Ok-track.number (largest_of c.args.ack.ranges.items) c.args.now c.take_items.new.self.sender
-          c.track.new.sender c.end_acks.new.self.sender
+          c.args.eliciting c.args.space c.in-Ok-track.number (largest_of c.args.ack.ranges.items) c.args.now
+          c.take_items.new.self.sender c.track.new.sender c.end_acks.new.self.sender
           (subst (λ (largest : Option ℕ). Continues (SendsNumber 0 (counted_if c.args.eliciting c.args.size)
-          c.args.space c.in-Ok-track.number largest c.args.now) c.take_items.new.self.sender c.track.new.sender)
+          c.args.eliciting c.args.space c.in-Ok-track.number largest c.args.now) c.take_items.new.self.sender
+          c.track.new.sender)
           (c.largest_of-largest.ensures ∙ ap largest_of c.deref.ensures.value) c.in-Ok-track.ensures.goes)
           c.end_acks.ensures.goes);
     }
@@ -47,17 +48,16 @@ returns-in-Err-track-clause-timer g c = λ has. rw c.keep.ensures.goes (c.in-Err
 pub returns-in-Ok-track-clause-items : goal.returns-in-Ok-track-clause-items
 returns-in-Ok-track-clause-items g c =
     let second = c.in-Ok.ensures.copies.1 in
-    let taken = c.in-Ok.ensures.items in
-    sends_move c.args.space c.in-Ok-track.number taken.0 c.in-Ok.taken.queue c.in-Ok.taken.told.items
+    rw (← c.is_probe-probe.ensures) (sends_move c.is_probe-probe.result c.args.space c.in-Ok-track.number
+    c.in-Ok.taken.queue c.in-Ok.taken.told.items
     c.args.self.now.sender c.take_items.new.self.sender c.track.new.sender c.end_acks.new.self.sender
-    c.args.self.now.waiting.items c.end_acks.new.self.waiting.items taken.1 c.in-Ok-track.ensures.items
-    c.end_acks.ensures.items (rw (← c.end_acks.ensures.waits) at taken.2) cc
+    c.args.self.now.waiting.items c.take_items.new.self.waiting.items c.end_acks.new.self.waiting.items
+    c.in-Ok.ensures.items c.in-Ok-track.ensures.items c.end_acks.ensures.items c.end_acks.ensures.waits cc)
 
 pub returns-in-Err-track-clause-items : goal.returns-in-Err-track-clause-items
 returns-in-Err-track-clause-items g c =
     let first = c.in-Ok.ensures.copies.0 in
-    let taken = c.in-Ok.ensures.items in
-    keeps_move c.args.space taken.0 c.in-Ok.taken.queue c.from_items.result
+    keeps_move c.is_probe-probe.result c.args.space c.in-Ok.taken.queue c.from_items.result
     c.args.self.now.sender c.take_items.new.self.sender c.keep.new.self.sender
     c.args.self.now.waiting.items c.take_items.new.self.waiting.items c.keep.new.self.waiting.items
-    taken.1 (rw c.keep.ensures.goes c.in-Err-track.ensures.items) taken.2 c.keep.ensures.items cc
+    c.in-Ok.ensures.items (rw c.keep.ensures.goes c.in-Err-track.ensures.items) c.keep.ensures.items cc

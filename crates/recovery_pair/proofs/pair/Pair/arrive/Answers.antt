@@ -5,6 +5,7 @@ use Rattle.recovery_pair.proofs.ItemTies.{arrived_items, idle_items, same_items}
 use Rattle.recovery_pair.proofs.QueueLaws.{same_queue, step_keeps, still_queue}
 use Rattle.recovery_pair.proofs.StepTies.{arrives_at, beyond, held_turn, idle_step}
 use Rattle.recovery_pair.proofs.TimedLaws.{timers_at}
+use Rattle.recovery_pair.proofs.LeastLaws.{least_at}
 use Rattle.recovery_pair.proofs.pair.Pair.arrive.Goals as goal
 
 pub returns-in_default-clause-keeps : goal.returns-in_default-clause-keeps
@@ -21,7 +22,7 @@ returns-in_default-clause-keeps g c = step_keeps c.args.self.now.client.sender c
       sent_same = λ measure there. refl;
     }) (λ log. tt) c.args.self.now.client.waiting.items
     c.args.self.now.server.waiting.items)
-    (same_items (Arrive c.args.at c.args.now) (Ok Nothing) _ _ tt tt (λ log. tt))
+    (same_items (Arrive c.args.at c.args.now) (Ok Nothing) _ _ tt tt tt (λ log. tt))
 
 pub returns-in-Ok-clause-keeps : goal.returns-in-Ok-clause-keeps
 returns-in-Ok-clause-keeps g c = step_keeps c.args.self.now.client.sender c.args.self.now.server.sender
@@ -63,7 +64,7 @@ returns-in-Err-clause-keeps g c = step_keeps c.args.self.now.client.sender c.arg
     }) (λ log. tt) c.args.self.now.client.waiting.items
     c.args.self.now.server.waiting.items c.hear_at.new.client.waiting.items c.hear_at.new.server.waiting.items
     c.in-Err.ensures.waits)
-    (idle_items c.other-to.result (Arrive c.args.at c.args.now) (Err c.in-Err.refused) _ _ _ _ tt tt (λ log. tt)
+    (idle_items c.other-to.result (Arrive c.args.at c.args.now) (Err c.in-Err.refused) _ _ _ _ tt tt tt (λ log. tt)
     c.in-Err.ensures.items)
 
 pub returns-in-Ok-clause-timer_set : goal.returns-in-Ok-clause-timer_set
@@ -75,3 +76,7 @@ pub returns-in-Err-clause-timer_set : goal.returns-in-Err-clause-timer_set
 returns-in-Err-clause-timer_set g c = timers_at c.other-to.result c.args.self.now.client.sender
     c.args.self.now.server.sender
     c.hear_at.new.client.sender c.hear_at.new.server.sender c.in-Err.ensures.timer
+
+pub returns-in-Ok-clause-least : goal.returns-in-Ok-clause-least
+returns-in-Ok-clause-least g c = least_at c.other-to.result _ c.args.self.now.client.sender
+    c.args.self.now.server.sender c.hear_at.new.client.sender c.hear_at.new.server.sender c.in-Ok.ensures.least

@@ -3,6 +3,7 @@ use Rattle.recovery_pair.proofs.ItemTies.{local_items}
 use Rattle.recovery_pair.proofs.QueueLaws.{local_known, local_queue, step_keeps}
 use Rattle.recovery_pair.proofs.StepTies.{local_answer, local_step_at}
 use Rattle.recovery_pair.proofs.TimedLaws.{timers_at}
+use Rattle.recovery_pair.proofs.LeastLaws.{least_at}
 use Rattle.recovery_pair.proofs.pair.Pair.local.Goals as goal
 
 pub returns-clause-keeps : goal.returns-clause-keeps
@@ -26,3 +27,7 @@ returns-clause-keeps g c = step_keeps c.args.self.now.client.sender c.args.self.
 pub returns-clause-timer_set : goal.returns-clause-timer_set
 returns-clause-timer_set g c = timers_at c.args.end c.args.self.now.client.sender c.args.self.now.server.sender
     c.local_at.new.client.sender c.local_at.new.server.sender c.local_at.ensures.timer
+
+pub returns-clause-least : goal.returns-clause-least
+returns-clause-least g c = least_at c.args.end _ c.args.self.now.client.sender c.args.self.now.server.sender
+    c.local_at.new.client.sender c.local_at.new.server.sender c.local_at.ensures.least

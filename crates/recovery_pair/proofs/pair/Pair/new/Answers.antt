@@ -5,7 +5,8 @@ pub returns-clause-tied : goal.returns-clause-tied
 returns-clause-tied g c = rw (c.new-3.ensures.sender, c.new-4.ensures.sender, c.new-5.ensures.items) (new_tied
     c.args.client.config
     c.args.server.config c.args.start _ _ c.in_ok-client.client c.in_ok-server.server c.in_ok-client.ensures.begins
-    c.in_ok-server.ensures.begins _ _ c.new-3.ensures.waits c.new-4.ensures.waits)
+    c.in_ok-server.ensures.begins _ _ c.new-3.ensures.waits c.new-4.ensures.waits
+    (λ measure adds. record { none = adds.none; joined = adds.joined }))
 
 pub returns-clause-timer_set : goal.returns-clause-timer_set
 returns-clause-timer_set g c = rw (c.new-3.ensures.sender, c.new-4.ensures.sender)

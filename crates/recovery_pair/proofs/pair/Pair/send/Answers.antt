@@ -5,7 +5,8 @@ use Rattle.recovery_pair.specs.declared.steps.PairAnswer.TheVariants.{Failed, He
 use Rattle.recovery_pair.specs.declared.steps.PairStep.TheVariants.{Send}
 use Rattle.recovery_pair.specs.declared.endpoint.Outgoing.TheVariants as outgoing
 use Rattle.recovery_pair.specs.Logs.{ack_of}
-use Rattle.recovery_pair.proofs.ItemTies.{idle_items, nothing_items, same_items, sent_items}
+use Rattle.recovery_pair.proofs.DeadlockLaws.{held_at}
+use Rattle.recovery_pair.proofs.ItemTies.{failed_items, idle_items, nothing_items, same_items, sent_items}
 use Rattle.recovery_pair.proofs.PermitLaws.{permits_at, permits_none}
 use Rattle.recovery_pair.proofs.QueueLaws.{nothing_queue, same_queue, sent_queue, step_keeps, still_queue}
 use Rattle.recovery_pair.proofs.StepTies.{held_turn, idle_step, send_turn}
@@ -48,11 +49,7 @@ returns-in-Ok-Nothing-clause-keeps g c = step_keeps c.args.self.now.client.sende
     tt (nothing_queue c.args.end c.args.space c.args.now c.args.size c.args.self.now.client.waiting.items
     c.args.self.now.server.waiting.items c.send_from.new.client.waiting.items c.send_from.new.server.waiting.items
     (rw c.in-Ok-Nothing.field-0-is at c.in-Ok-Nothing.ensures.waits))
-    (nothing_items c.args.end c.args.space c.args.now c.args.size _ _ _ _ (λ measure adds. record {
-      none =
-          adds.none;
-      joined = adds.joined;
-    })
+    (nothing_items c.args.end c.args.space c.args.now c.args.size _ _ _ _
     (rw c.in-Ok-Nothing.field-0-is at c.in-Ok-Nothing.ensures.permits)
     (rw c.in-Ok-Nothing.field-0-is at c.in-Ok-Nothing.ensures.waits)
     (rw c.in-Ok-Nothing.field-0-is at c.in-Ok-Nothing.ensures.items))
@@ -74,7 +71,7 @@ returns-in-Ok-Held-clause-keeps g c = step_keeps c.args.self.now.client.sender c
     c.args.self.now.server.waiting.items c.send_from.new.client.waiting.items c.send_from.new.server.waiting.items
     (rw c.in-Ok-Held.field-0-is at c.in-Ok-Held.ensures.waits))
     (idle_items c.args.end (Send c.args.end c.args.space c.args.now c.args.size) (Ok (Held c.in-Ok-Held.held)) _ _
-    _ _ tt tt (λ log. tt) (rw c.in-Ok-Held.field-0-is at c.in-Ok-Held.ensures.items))
+    _ _ tt tt tt (λ log. tt) (rw c.in-Ok-Held.field-0-is at c.in-Ok-Held.ensures.items))
 
 pub returns-in-Ok-Failed-clause-keeps : goal.returns-in-Ok-Failed-clause-keeps
 returns-in-Ok-Failed-clause-keeps g c = step_keeps c.args.self.now.client.sender c.args.self.now.server.sender
@@ -93,8 +90,8 @@ returns-in-Ok-Failed-clause-keeps g c = step_keeps c.args.self.now.client.sender
     c.args.self.now.client.waiting.items
     c.args.self.now.server.waiting.items c.send_from.new.client.waiting.items c.send_from.new.server.waiting.items
     (rw c.in-Ok-Failed.field-0-is at c.in-Ok-Failed.ensures.waits))
-    (idle_items c.args.end (Send c.args.end c.args.space c.args.now c.args.size) (Ok (Failed
-    c.in-Ok-Failed.refused)) _ _ _ _ tt tt (λ log. tt) (rw c.in-Ok-Failed.field-0-is at c.in-Ok-Failed.ensures.items))
+    (failed_items c.args.end c.args.space c.args.now c.args.size c.in-Ok-Failed.refused _ _ _ _
+    (rw c.in-Ok-Failed.field-0-is at c.in-Ok-Failed.ensures.items))
 
 pub returns-in-Err-send_from-clause-keeps : goal.returns-in-Err-send_from-clause-keeps
 returns-in-Err-send_from-clause-keeps g c = step_keeps c.args.self.now.client.sender c.args.self.now.server.sender
@@ -113,7 +110,7 @@ returns-in-Err-send_from-clause-keeps g c = step_keeps c.args.self.now.client.se
     c.args.self.now.server.waiting.items c.send_from.new.client.waiting.items c.send_from.new.server.waiting.items
     c.in-Err-send_from.ensures.waits)
     (idle_items c.args.end (Send c.args.end c.args.space c.args.now c.args.size) (Err c.in-Err-send_from.refused) _
-    _ _ _ tt tt (λ log. tt) c.in-Err-send_from.ensures.items)
+    _ _ _ tt tt tt (λ log. tt) c.in-Err-send_from.ensures.items)
 
 pub returns-in-Err-clause-keeps : goal.returns-in-Err-clause-keeps
 returns-in-Err-clause-keeps g c = step_keeps c.args.self.now.client.sender c.args.self.now.server.sender
@@ -129,7 +126,7 @@ returns-in-Err-clause-keeps g c = step_keeps c.args.self.now.client.sender c.arg
       sent_same = λ measure there. refl;
     }) (λ log. tt) c.args.self.now.client.waiting.items
     c.args.self.now.server.waiting.items)
-    (same_items (Send c.args.end c.args.space c.args.now c.args.size) (Err (Event NoMemory)) _ _ tt tt (λ log. tt))
+    (same_items (Send c.args.end c.args.space c.args.now c.args.size) (Err (Event NoMemory)) _ _ tt tt tt (λ log. tt))
 
 pub returns-in-Ok-Sent-clause-permits : goal.returns-in-Ok-Sent-clause-permits
 returns-in-Ok-Sent-clause-permits g c = permits_at c.args.end c.args.space c.args.now c.args.size
@@ -189,3 +186,15 @@ pub returns-in-Err-send_from-clause-timer_set : goal.returns-in-Err-send_from-cl
 returns-in-Err-send_from-clause-timer_set g c = timers_at c.args.end c.args.self.now.client.sender
     c.args.self.now.server.sender c.send_from.new.client.sender c.send_from.new.server.sender
     c.in-Err-send_from.ensures.timer
+
+pub returns-in-Ok-Held-clause-held : goal.returns-in-Ok-Held-clause-held
+returns-in-Ok-Held-clause-held g c = held_at c.args.self.now.client.sender c.args.self.now.server.sender
+    c.args.self.now.wire.items c.args.self.now.client.waiting.items c.args.self.now.server.waiting.items c.args.end
+    c.args.space c.args.now c.args.size c.in-Ok-Held.held c.send_from.new.client.sender c.send_from.new.server.sender
+    (rw c.in-Ok-Held.field-0-is at c.in-Ok-Held.ensures.goes)
+    (permits_at c.args.end c.args.space c.args.now c.args.size
+    (Ok (outgoing.Held c.in-Ok-Held.held)) (Ok (Held c.in-Ok-Held.held))
+    c.args.self.now.client.sender c.args.self.now.server.sender (λ Idle in_flight checked said agrees. agrees)
+    (rw c.in-Ok-Held.field-0-is at c.in-Ok-Held.ensures.permits))
+    (timers_at c.args.end c.args.self.now.client.sender c.args.self.now.server.sender c.send_from.new.client.sender
+    c.send_from.new.server.sender c.in-Ok-Held.ensures.timer)

@@ -1,0 +1,527 @@
+-- No deadlock: while bytes are in flight, the timer is set; and the window holds a datagram back only then.
+use Rattle.std.proofs.Common.{◌≡◌, ◌≢◌, ℕ, ◌+◌, ◌*◌, ◌<◌, ◌≤◌, ◌==◌, ◌⊎◌, inl, inr, ◌&&◌, ◌||◌, Bool, true, false, List, [], ◌∷◌, Option, None, Some, Result, Ok, Err, nat_lt, refl, sym, ap, subst, ◌∙◌, arith, true≢false}
+use Rattle.std.proofs.lemmas.Bool.{cases_lt}
+use Rattle.std.proofs.lemmas.Option.{none-some}
+use Rattle.std.proofs.lemmas.Bool.Decides.{nat_tests}
+use Rattle.std.specs.Prelude.{not, if◌then◌else◌}
+use Rattle.rand_core.specs.Stream.{Stream}
+use Rattle.recovery_base.specs.declared.below.SpaceId.{SpaceId}
+use Rattle.recovery_base.specs.declared.below.SpaceId.TheVariants.{Data, Handshake, Initial}
+use Rattle.recovery_base.specs.declared.timer.Timer.TheVariants.{LossDetection}
+use Rattle.recovery_base.specs.Spaces.{same_space}
+use Rattle.recovery_events.specs.declared.event.Answer.TheVariants.{Probe, Sent}
+use Rattle.recovery_events.specs.declared.event.Event.{Event}
+use Rattle.recovery_events.specs.declared.event.Event.TheVariants.{DiscardSpace, PollMtu, Send}
+use Rattle.recovery_events.specs.declared.event.Refusal.TheVariants.{SpaceDiscarded}
+use Rattle.recovery_events.specs.declared.event.Refusal.{Refusal}
+use Rattle.recovery_paths.specs.PathLog.{PathReplyInputs, PerPath}
+use Rattle.recovery_paths.specs.PathStates.{is_blocked}
+use Rattle.recovery_paths.specs.declared.path_pair.PathName.TheVariants.{Current}
+use Rattle.recovery_history.specs.declared.config.RecoveryConfig.{RecoveryConfig}
+use Rattle.recovery_history.specs.History.{AtEach, Beginning, History, Reply, begins, queue_model}
+use Rattle.recovery_history.specs.Promises.Counted.{sum_on, weight}
+use Rattle.recovery_history.specs.Promises.Datagrams.{is_validated}
+use Rattle.recovery_history.specs.Promises.Fates.{HaveOneOutcome, is_given, more_if, times}
+use Rattle.recovery_history.specs.Promises.NewNumbers.{is_discarded}
+use Rattle.recovery_history.specs.Promises.Paths.{generations}
+use Rattle.recovery_history.specs.Promises.Rejections.{RejectsExactly}
+use Rattle.recovery_history.specs.Promises.Timeouts.{timer_value}
+use Rattle.recovery_history.specs.Promises.Tracked.{goes_out, is_tracked, leaves}
+use Rattle.recovery_history.specs.Reachability.{ReachedBy}
+use Rattle.recovery_history.specs.RecoveryState.{RecoveryState}
+use Rattle.recovery_history.specs.RepliesAfter.{RepliesAfter, pasts_of}
+use Rattle.recovery_history.proofs.DatagramLaws.{Flow, FlowsAgree, flow_of, flows_after, flows_at_first}
+use Rattle.recovery_history.proofs.OneOutcomeLaws.{have_one_fate}
+use Rattle.recovery_history.proofs.RejectionsLaws.{refuses_rightly}
+use Rattle.recovery_history.proofs.Runs.{kept_after}
+use Rattle.recovery_history.proofs.TrackedLaws.{one_space}
+use Rattle.recovery_sender.specs.Calls.{bytes_in_flight, is_checked, is_full, paced_to, transmit_reply, window_of}
+use Rattle.recovery_sender.specs.Promises.Liveness.{IsOutstanding, IsTimerByEvents, deadlock_space_by, may_send}
+use Rattle.recovery_sender.specs.Promises.Lost.{elicits_by}
+use Rattle.recovery_sender.specs.Senders.{state_in}
+use Rattle.recovery_sender.specs.declared.sender.Sender.{Sender}
+use Rattle.recovery_sender.specs.declared.sender.SenderError.{SenderError}
+use Rattle.recovery_sender.specs.declared.sender.packets.Transmission.{Transmission}
+use Rattle.recovery_sender.specs.declared.sender.packets.Transmission.TheVariants.{Blocked, Full, Transmitted}
+use Rattle.recovery_pair.specs.declared.endpoint.Waiting.{Waiting}
+use Rattle.recovery_pair.specs.declared.steps.End.{End}
+use Rattle.recovery_pair.specs.declared.steps.End.TheVariants.{Client, Server}
+use Rattle.recovery_pair.specs.declared.steps.PairAnswer.{PairAnswer}
+use Rattle.recovery_pair.specs.declared.steps.PairAnswer.TheVariants.{Held}
+use Rattle.recovery_pair.specs.declared.steps.PairStep.{PairStep}
+use Rattle.recovery_pair.specs.declared.steps.PairStep.TheVariants as steps
+use Rattle.recovery_pair.specs.declared.steps.WirePacket.{WirePacket}
+use Rattle.recovery_pair.specs.Flights.{Numbers, counted_if, flight, no_numbers}
+use Rattle.recovery_pair.specs.Logs.{PairLog, has_validated, was_discarded}
+use Rattle.recovery_pair.specs.NoDeadlock.{AreTimed, HasProbeKeys, HasTimer, HoldsWithCause, IfTied, IsHeldWithCause, IsTimed, MayProbe, NeverStuck, deadlock_space_in}
+use Rattle.recovery_pair.specs.Pasts.{Continues, GoesOnQuietly, flight_in, silent_bytes}
+use Rattle.recovery_pair.specs.Permits.{HoldsAt, PermitsAnswer}
+use Rattle.recovery_pair.specs.Runs.{StepKeeps}
+use Rattle.recovery_pair.specs.Tied.{IsLogged, IsTied, validated_first}
+use Rattle.recovery_pair.specs.Timed.{HasTimerByEvents, HaveTimersByEvents}
+use Rattle.recovery_pair.specs.Turns.{TurnsAt}
+use Rattle.recovery_pair.proofs.FlightLaws.{flight_sum, or_left, or_right}
+
+-- ---- tests
+
+some_of : (a b : ℕ) → 0 < a + b → (0 < a) ⊎ (0 < b)
+some_of a b more = elim (cases_lt 0 a) [ inl is ↦ inl is | inr none ↦ inr (omega (arith, more, none)) ]
+
+or_cases : (a b : Bool) → (a || b) ≡ true → (a ≡ true) ⊎ (b ≡ true)
+or_cases true b is = inl refl
+or_cases false b is = inr is
+
+true_first : (a b : Bool) → a ≡ true → (a || b) ≡ true
+true_first a b is = rw is refl
+
+-- a number that is tracked is not given again
+not_again : (out tracked : Bool) (given departed : ℕ) → tracked ≡ true → given ≡ more_if tracked departed
+    → more_if out given ≤ 1 → out ≡ false
+not_again false tracked given departed is same most = refl
+not_again true true given departed is same most = absurd (omega (arith, same, most))
+not_again true false given departed is same most = absurd (true≢false (sym is))
+
+kept_on : (out left tracked : Bool) → left ≡ false → tracked ≡ true → (out || (not left && tracked)) ≡ true
+kept_on true left tracked stays is = refl
+kept_on false left tracked stays is = rw (stays, is) refl
+
+tracked_of : (out left tracked : Bool) → out ≡ false → (out || (not left && tracked)) ≡ true → tracked ≡ true
+tracked_of true left tracked never is = absurd (true≢false never)
+tracked_of false true tracked never is = absurd (true≢false (sym is))
+tracked_of false false tracked never is = is
+
+where_here : (here : Bool) (w : ℕ) → 0 < (if here then w else 0) → 0 < w
+where_here true w more = more
+where_here false w more = absurd (omega (arith, more))
+
+cause_none : (discarded : Bool) → ◌≡◌ {A = Option Refusal} (if discarded then Some SpaceDiscarded else None) None
+    → discarded ≡ false
+cause_none true is = absurd cc
+cause_none false is = refl
+
+-- ---- packets in flight are outstanding
+
+module _ {Q S M P : Type 0} where
+  -- an ack-eliciting packet is tracked, and its number is not gone
+  record IsFlying (gone : Numbers) (past : History Q S M P) : Type 0 where
+    pub space : SpaceId
+    pub number : ℕ
+    pub stays : gone space number ≡ false
+    pub tracked : is_tracked space number past ≡ true
+    pub elicits : elicits_by space past number ≡ true
+
+  elicits_on : (happened : Event Q S M P × Reply Q) (earlier : History Q S M P) (space : SpaceId) (n : ℕ)
+      → goes_out happened space n ≡ false → elicits_by space (happened ∷ earlier) n ≡ elicits_by space earlier n
+  elicits_on (Send there now size eliciting largest queue frames, Ok (Sent number forgotten)) earlier space n given =
+      rw given refl
+  elicits_on (PollMtu now, Ok (Probe number size)) earlier space n given = rw given refl
+  elicits_on happened earlier space n given = refl
+
+  still_flying : (gone : Numbers) (happened : Event Q S M P × Reply Q) (earlier : History Q S M P)
+      → HaveOneOutcome (happened ∷ earlier) → HaveOneOutcome earlier
+      → IsFlying (λ space n. leaves happened space n || gone space n) earlier → IsFlying gone (happened ∷ earlier)
+  still_flying gone happened earlier once before flying =
+      let space = flying.space in
+      let n = flying.number in
+      let given : goes_out happened space n ≡ false = not_again (goes_out happened space n)
+      (is_tracked space n earlier) (times (is_given space n) earlier) _ flying.tracked (before space n).1
+      (once space n).0 in record {
+        space = space;
+        number = n;
+        stays = or_right (leaves happened space n) (gone space n) flying.stays;
+        tracked = kept_on (goes_out happened space n) (leaves happened space n) (is_tracked space n earlier)
+            (or_left (leaves happened space n) (gone space n) flying.stays) flying.tracked;
+        elicits = elicits_on happened earlier space n given ∙ flying.elicits;
+      }
+
+  flying_here : (gone : Numbers) (happened : Event Q S M P × Reply Q) (earlier : History Q S M P)
+      → 0 < weight (λ size eliciting. counted_if eliciting size) gone happened → IsFlying gone (happened ∷ earlier)
+  flying_here gone (Send there now size eliciting largest queue frames, Ok (Sent number forgotten)) earlier more =
+      by (gone there number) eliciting refl refl more
+    where
+      by : (is_gone elicits : Bool) → gone there number ≡ is_gone → eliciting ≡ elicits
+          → 0 < (if is_gone then 0 else counted_if elicits size)
+          → IsFlying gone ((Send there now size eliciting largest queue frames, Ok (Sent number forgotten)) ∷ earlier)
+      by true elicits stays is some = absurd (omega (arith, some))
+      by false false stays is some = absurd (omega (arith, some))
+      by false true stays is some = record {
+        space = there;
+        number = number;
+        stays = stays;
+        tracked = grind (arith, nat_tests);
+        elicits = grind (arith, nat_tests, is);
+      }
+  flying_here gone (PollMtu now, Ok (Probe number size)) earlier more = by (gone Data number) refl more
+    where
+      by : (is_gone : Bool) → gone Data number ≡ is_gone → 0 < (if is_gone then 0 else counted_if true size)
+          → IsFlying gone ((PollMtu now, Ok (Probe number size)) ∷ earlier)
+      by true stays some = absurd (omega (arith, some))
+      by false stays some = record {
+        space = Data;
+        number = number;
+        stays = stays;
+        tracked = grind (arith, nat_tests);
+        elicits = grind (arith, nat_tests);
+      }
+  flying_here gone happened earlier more = absurd (omega (arith, more))
+
+  flying_by : {F K : Type 0} (beginning : Beginning F K Q S M P) (generation : ℕ) (gone : Numbers)
+      (past : History Q S M P) → AtEach (RepliesAfter beginning) past
+      → 0 < sum_on (λ size eliciting. counted_if eliciting size) generation gone past → IsFlying gone past
+  flying_by beginning generation gone [] all more = absurd (omega (arith, more))
+  flying_by beginning generation gone (happened ∷ earlier) all more =
+      by (flying_by beginning generation (λ space n. leaves happened space n || gone space n) earlier all.1)
+      (some_of (if (generations earlier).current == generation
+      then weight (λ size eliciting. counted_if eliciting size) gone happened else 0)
+      (sum_on (λ size eliciting. counted_if eliciting size) generation
+      (λ space n. leaves happened space n || gone space n) earlier) more)
+    where
+      by : (0 < sum_on (λ size eliciting. counted_if eliciting size) generation
+          (λ space n. leaves happened space n || gone space n) earlier
+          → IsFlying (λ space n. leaves happened space n || gone space n) earlier)
+          → (0 < (if (generations earlier).current == generation
+          then weight (λ size eliciting. counted_if eliciting size) gone happened else 0))
+          ⊎ (0 < sum_on (λ size eliciting. counted_if eliciting size) generation
+          (λ space n. leaves happened space n || gone space n) earlier) → IsFlying gone (happened ∷ earlier)
+      by before (inl here) = flying_here gone happened earlier (where_here _ _ here)
+      by before (inr rest) = still_flying gone happened earlier (have_one_fate beginning (happened ∷ earlier) all)
+          (have_one_fate beginning earlier all.1) (before rest)
+
+  -- ---- a packet that is tracked is in a space that is not discarded
+
+  lives_on : (past : History Q S M P) (event : Event Q S M P) (reply : Reply Q) → RejectsExactly past event reply
+      → (space : SpaceId) (n : ℕ) → (is_tracked space n past ≡ true → is_discarded space past ≡ false)
+      → is_tracked space n ((event, reply) ∷ past) ≡ true → is_discarded space ((event, reply) ∷ past) ≡ false
+  lives_on past (Send there now size eliciting largest queue frames) (Ok (Sent number forgotten)) exact space n before
+      is =
+      by (or_cases (same_space there space && number == n) _ is)
+    where
+      happened : Event Q S M P × Reply Q
+      happened = (Send there now size eliciting largest queue frames, Ok (Sent number forgotten))
+
+      by : ((same_space there space && number == n) ≡ true)
+          ⊎ ((not (leaves happened space n) && is_tracked space n past) ≡ true) → is_discarded space past ≡ false
+      by (inl here) =
+          let same : there ≡ space = one_space there space (grind (arith, here)) in
+          subst (λ (one : SpaceId). is_discarded one past ≡ false) same (cause_none (is_discarded there past) exact)
+      by (inr kept) = before (tracked_of false (leaves happened space n) (is_tracked space n past) refl kept)
+  lives_on past (PollMtu now) (Ok (Probe number size)) exact space n before is =
+      by (or_cases (same_space Data space && number == n) _ is)
+    where
+      by : ((same_space Data space && number == n) ≡ true) ⊎ (is_tracked space n past ≡ true)
+          → is_discarded space past ≡ false
+      by (inl here) =
+          let same : Data ≡ space = one_space Data space (grind (arith, here)) in
+          subst (λ (one : SpaceId). is_discarded one past ≡ false) same (cause_none (is_discarded Data past) exact)
+      by (inr kept) = before kept
+  lives_on past (DiscardSpace there) (Ok answer) exact space n before is =
+      both (same_space there space) (is_tracked space n past) (is_discarded space past) before is
+    where
+      both : (same tracked gone : Bool) → (tracked ≡ true → gone ≡ false) → (not same && tracked) ≡ true
+          → (same || gone) ≡ false
+      both true tracked gone was here = absurd (true≢false (sym here))
+      both false tracked gone was here = was here
+  lives_on past event reply exact space n before is =
+      before (tracked_of (goes_out (event, reply) space n) (leaves (event, reply) space n) (is_tracked space n past)
+      refl is)
+
+  lives_by : {F K : Type 0} (beginning : Beginning F K Q S M P) (past : History Q S M P)
+      → AtEach (RepliesAfter beginning) past → (space : SpaceId) (n : ℕ) → is_tracked space n past ≡ true
+      → is_discarded space past ≡ false
+  lives_by beginning past all = kept_after RejectsExactly
+      (λ (past : History Q S M P). (space : SpaceId) (n : ℕ) → is_tracked space n past ≡ true
+      → is_discarded space past ≡ false)
+      (λ before event reply exact lives space n. lives_on before event reply exact space n (lives space n))
+      (λ space n never. absurd (true≢false (sym never))) past (refuses_rightly beginning past all)
+
+  -- ---- all that counts in flight is ack-eliciting
+
+  silent_weight : (gone : Numbers) (happened : Event Q S M P × Reply Q) (earlier : History Q S M P)
+      → weight (λ size eliciting. size) gone happened + silent_bytes earlier
+      ≤ weight (λ size eliciting. counted_if eliciting size) gone happened + silent_bytes (happened ∷ earlier)
+  silent_weight gone (Send there now size eliciting largest queue frames, Ok (Sent number forgotten)) earlier =
+      by (gone there number) eliciting (silent_bytes earlier)
+    where
+      by : (is_gone elicits : Bool) (rest : ℕ) → (if is_gone then 0 else size) + rest
+          ≤ (if is_gone then 0 else counted_if elicits size) + ((if elicits then 0 else size) + rest)
+      by true true rest = omega arith
+      by true false rest = omega arith
+      by false true rest = omega arith
+      by false false rest = omega arith
+  silent_weight gone (PollMtu now, Ok (Probe number size)) earlier = omega arith
+  silent_weight gone happened earlier = omega arith
+
+  silent_grows : (happened : Event Q S M P × Reply Q) (earlier : History Q S M P)
+      → silent_bytes earlier ≤ silent_bytes (happened ∷ earlier)
+  silent_grows (Send there now size eliciting largest queue frames, Ok (Sent number forgotten)) earlier = omega arith
+  silent_grows happened earlier = omega arith
+
+  silent_sum : (generation : ℕ) (gone : Numbers) (past : History Q S M P)
+      → sum_on (λ size eliciting. size) generation gone past
+      ≤ sum_on (λ size eliciting. counted_if eliciting size) generation gone past + silent_bytes past
+  silent_sum generation gone [] = omega arith
+  silent_sum generation gone (happened ∷ earlier) =
+      by ((generations earlier).current == generation) _ _ _ _ _ _ (silent_weight gone happened earlier)
+      (silent_grows happened earlier)
+      (silent_sum generation (λ space n. leaves happened space n || gone space n) earlier)
+    where
+      by : (here : Bool) (a b x y before after : ℕ) → a + before ≤ b + after → before ≤ after → x ≤ y + before
+          → (if here then a else 0) + x ≤ ((if here then b else 0) + y) + after
+      by true a b x y before after one more two = omega (arith, one, two)
+      by false a b x y before after one more two = omega (arith, more, two)
+
+  flight_all : {F K : Type 0} (beginning : Beginning F K Q S M P) (past : History Q S M P)
+      (recovery : RecoveryState K P M) → ReachedBy beginning past recovery → silent_bytes past ≤ 0
+      → bytes_in_flight recovery ≤ flight_in no_numbers past
+  flight_all beginning past recovery came none =
+      let most = silent_sum (generations past).current no_numbers past in
+      subst (λ (bytes : ℕ). bytes ≤ flight_in no_numbers past) (sym (flight_sum beginning past recovery came))
+      (omega (arith, most, none))
+
+-- ---- what the sender says of a datagram
+
+-- not that the amplification limit forbids it, if the address is validated
+free_of : (validated : Bool) (came went bytes : ℕ) → validated ≡ true
+    → (not validated && nat_lt (3 * came) (went + bytes)) ≡ false
+free_of validated came went bytes is = rw is refl
+
+module _ (first second : SenderError) where
+  abbrev said_of : (discarded room blocked checked full : Bool) (delay : Option ℕ) → Result Transmission SenderError
+  said_of discarded room blocked checked full delay = if discarded then Err first
+      else if room then Ok (if blocked then Blocked else if checked then (if full then Full else paced_to delay)
+      else Transmitted) else Err second
+
+  said_blocked : (discarded room blocked checked full : Bool) (delay : Option ℕ)
+      → said_of discarded room blocked checked full delay ≡ Ok Blocked → blocked ≡ true
+  said_blocked true room blocked checked full delay is = absurd cc
+  said_blocked false false blocked checked full delay is = absurd cc
+  said_blocked false true true checked full delay is = refl
+  said_blocked false true false false full delay is = absurd cc
+  said_blocked false true false true true delay is = absurd cc
+  said_blocked false true false true false None is = absurd cc
+  said_blocked false true false true false (Some until) is = absurd cc
+
+  said_full : (discarded room blocked checked full : Bool) (delay : Option ℕ)
+      → said_of discarded room blocked checked full delay ≡ Ok Full → full ≡ true
+  said_full true room blocked checked full delay is = absurd cc
+  said_full false false blocked checked full delay is = absurd cc
+  said_full false true true checked full delay is = absurd cc
+  said_full false true false false full delay is = absurd cc
+  said_full false true false true true delay is = refl
+  said_full false true false true false None is = absurd cc
+  said_full false true false true false (Some until) is = absurd cc
+
+-- the log and a past agree on what is validated and discarded
+record Agrees {Q S M P : Type 0} (validated : Bool) (log : PairLog) (end : End) (first : Bool)
+    (past : History Q S M P) : Type 0 where
+  pub address : is_validated first Current past ≡ has_validated end (validated_first end validated) log
+  pub discarded : (space : SpaceId) → is_discarded space past ≡ was_discarded end space log
+
+agrees : {Q S M P : Type 0} (validated : Bool) (log : PairLog) (end : End) (first : Bool) (past : History Q S M P)
+    → IsLogged validated log end first past → Agrees validated log end first past
+agrees validated log end first past logged = record { address = logged.address; discarded = logged.discarded }
+
+agrees_after : {Q S M P : Type 0} (validated : Bool) (log : PairLog) (end : End) (first : Bool)
+    (past after : History Q S M P) → GoesOnQuietly past after → Agrees validated log end first past
+    → Agrees validated log end first after
+agrees_after validated log end first past after goes agree = record {
+  address = goes.validated first ∙ agree.address;
+  discarded = λ space. goes.discarded space ∙ agree.discarded space;
+}
+
+module _ {F Q R C K S M P : Type 0} {f : _} {c : _} {q : _} {m : _} {r : _} (sender : Sender F Q R C K S M P f c q m r)
+    (config : RecoveryConfig F) (start : ℕ) (random : Stream) (past : History Q S M P)
+    (came : ReachedBy (begins f.built c.words (queue_model q.contents q.words q.blank) config start random) past
+    (state_in sender)) where
+  abbrev begun : Beginning F K Q S M P
+  begun = begins f.built c.words (queue_model q.contents q.words q.blank) config start random
+
+  outstanding_by : 0 < flight_in no_numbers past → (space : SpaceId) × IsOutstanding past space
+  outstanding_by more =
+      let one = flying_by begun (generations past).current no_numbers past came.replies more in (
+        one.space,
+        (lives_by begun past came.replies one.space one.number one.tracked, one.number, one.tracked, one.elicits),
+      )
+
+  -- while a packet is in flight
+  timed_by : IsTimerByEvents begun past (state_in sender) sender.variables → may_send begun past ≡ true
+      → (sender.variables.is_handshake_confirmed ≡ true)
+      ⊎ (is_discarded (deadlock_space_by past sender.variables) past ≡ false)
+      → (space : SpaceId) → IsOutstanding past space → HasTimer sender
+  timed_by timer may keys space outstanding none =
+      by (same_space space Data) sender.variables.is_handshake_confirmed refl refl
+    where
+      stopped : timer_value past LossDetection ≡ None
+      stopped = sym (came.state_after.timers LossDetection) ∙ none
+
+      never : (same_space space Data && not sender.variables.is_handshake_confirmed) ≡ false → ⊥
+      never goes = let set = timer.runs may space goes outstanding in
+          none-some set.time (sym stopped ∙ set.set)
+
+      by : (is_data confirmed : Bool) → same_space space Data ≡ is_data
+          → sender.variables.is_handshake_confirmed ≡ confirmed → ⊥
+      by false confirmed one two = never (rw one refl)
+      by true true one two = never (rw (one, two) refl)
+      by true false one two = elim keys [
+        | inl confirmed ↦ true≢false (sym confirmed ∙ two)
+        | inr kept ↦ timer.deadlock may kept
+            (inr (two, subst (λ (at : SpaceId). IsOutstanding past at) (one_space space Data one) outstanding)) stopped
+      ]
+
+  module _ (validated : Bool) (log : PairLog) (end : End)
+      (agree : Agrees validated log end config.validated past) where
+    address_by : MayProbe validated log end sender → is_validated config.validated Current past ≡ true
+    address_by may = agree.address ∙ may.address
+
+    kept_by : HasProbeKeys log end sender
+        → is_discarded (deadlock_space_by past sender.variables) past ≡ false
+    kept_by kept = subst (λ (gone : Bool). is_discarded
+        (if sender.variables.has_handshake_keys && not gone then Handshake else Initial) past ≡ false)
+        (sym (agree.discarded Handshake)) (agree.discarded (deadlock_space_in log end sender) ∙ kept)
+
+    keys_by : MayProbe validated log end sender → (sender.variables.is_handshake_confirmed ≡ true)
+        ⊎ (is_discarded (deadlock_space_by past sender.variables) past ≡ false)
+    keys_by may = elim may.keys [
+      | inl confirmed ↦ inl confirmed
+      | inr kept ↦ inr (kept_by kept)
+    ]
+
+    timed_if : IsTimerByEvents begun past (state_in sender) sender.variables → MayProbe validated log end sender
+        → 0 < flight_in no_numbers past → HasTimer sender
+    timed_if timer may more =
+        let one = outstanding_by more in
+        timed_by timer (true_first _ _ (address_by may)) (keys_by may) one.0 one.1
+
+    -- ---- a datagram that is held back
+
+    free : is_validated config.validated Current past ≡ true → (bytes : ℕ)
+        → is_blocked (state_in sender).paths.current.state bytes ≡ false
+    free is bytes =
+        let flows = kept_after (RepliesAfter begun) (FlowsAgree begun) (flows_after begun) (flows_at_first begun) past
+        came.replies in
+        let kept : Flow = flow_of (pasts_of begun past).current in
+        let flags = ap (λ (f : Flow). f.validated) flows.0.0 in
+        ap (λ (paths : PerPath (PathReplyInputs K)). is_blocked paths.current.state bytes) came.state_after.paths
+        ∙ free_of kept.validated kept.came kept.went bytes (sym flags ∙ is)
+
+    -- not by the amplification limit
+    not_blocked : (now size : ℕ) (space : SpaceId) (in_flight : Bool)
+        → transmit_reply c.words (state_in sender) sender.variables now size space in_flight ≡ Ok Blocked
+        → MayProbe validated log end sender → ⊥
+    not_blocked now size space in_flight said may = true≢false
+        (sym (said_blocked _ _ _ _ _ (is_checked sender.variables space in_flight)
+        (is_full c.words (state_in sender) size)
+        _ said) ∙ free (address_by may) size)
+
+    -- and by the window only if something is in flight
+    full_in_flight : (now size : ℕ) (space : SpaceId) (in_flight : Bool)
+        → transmit_reply c.words (state_in sender) sender.variables now size space in_flight ≡ Ok Full
+        → size ≤ window_of c.words (state_in sender) → silent_bytes past ≤ 0 → 0 < flight_in no_numbers past
+    full_in_flight now size space in_flight said fits silent =
+        let full : is_full c.words (state_in sender) size ≡ true = said_full _ _ _ _ _
+        (is_checked sender.variables space in_flight) (is_full c.words (state_in sender) size)
+        _ said in
+        let most = flight_all begun past (state_in sender) came silent in
+        room (window_of c.words (state_in sender)) (bytes_in_flight (state_in sender)) size _ full fits most
+      where
+        room : (window bytes size flying : ℕ) → nat_lt window (bytes + size) ≡ true → size ≤ window → bytes ≤ flying
+            → 0 < flying
+        room window bytes size flying more fits most = grind (arith, nat_tests, more, fits, most)
+
+-- ---- both endpoints
+
+-- what goes on quietly has no less in flight
+still_flying_after : {Q S M P : Type 0} (past after : History Q S M P) → GoesOnQuietly past after
+    → flight_in no_numbers past ≤ flight_in no_numbers after
+still_flying_after past after goes = let more = goes.flight no_numbers in omega (arith, more)
+
+module _ {F Q R C K S M P : Type 0} {f : _} {c : _} {q : _} {m : _} {r : _} where
+  held_with_cause : (validated : Bool) (log : PairLog) (end : End) (space : SpaceId) (now size : ℕ)
+      (held : Transmission) (old new : Sender F Q R C K S M P f c q m r) (config : RecoveryConfig F) (start : ℕ)
+      (random : Stream) (past : History Q S M P)
+      → ReachedBy (begins f.built c.words (queue_model q.contents q.words q.blank) config start random) past
+      (state_in old) → IsLogged validated log end config.validated past → Continues GoesOnQuietly old new
+      → HasTimerByEvents new → PermitsAnswer space now size (Ok (Held held)) old
+      → IsHeldWithCause validated log end size held old new
+  held_with_cause validated log end space now size Blocked old new config start random past came logged goes timer
+      permits = λ may.
+      not_blocked old config start random past came validated log end
+      (agrees validated log end config.validated past logged) now size space permits.0 permits.1.0 may
+  held_with_cause validated log end space now size Full old new config start random past came logged goes timer
+      permits = λ may fits.
+      let on = goes.from config start random past came in
+      let agree = agrees validated log end config.validated past logged in
+      let some = full_in_flight old config start random past came validated log end agree now size space permits.0
+      permits.1.0 fits logged.silent in
+      let least = still_flying_after past on.0 on.2 in
+      timed_if new config start random on.0 on.1 validated log end
+      (agrees_after validated log end config.validated past on.0 on.2 agree) (timer config start random on.0 on.1) may
+      (omega (arith, some, least))
+  held_with_cause validated log end space now size held old new config start random past came logged goes timer
+      permits = tt
+
+  timed_logged : (validated : Bool) (log : PairLog) (end : End) (sender : Sender F Q R C K S M P f c q m r)
+      (config : RecoveryConfig F) (start : ℕ) (random : Stream) (past : History Q S M P)
+      → ReachedBy (begins f.built c.words (queue_model q.contents q.words q.blank) config start random) past
+      (state_in sender) → IsLogged validated log end config.validated past → HasTimerByEvents sender
+      → IsTimed validated log end sender
+  timed_logged validated log end sender config start random past came logged timer =
+      let agree = agrees validated log end config.validated past logged in
+      let events = timer config start random past came in record {
+        in_flight = λ may more. timed_if sender config start random past came validated log end agree events may
+            (let least = logged.flight no_numbers in omega (arith, more, least));
+        unknown = λ address keys unknown none. events.deadlock (true_first _ _ (logged.address ∙ address))
+            (kept_by sender config start random past came validated log end agree keys) (inl unknown)
+            (sym (came.state_after.timers LossDetection) ∙ none);
+      }
+
+module _ {F Q R C K S M : Type 0} {f : _} {c : _} {q : _} {m : _} {r : _}
+    (client server : Sender F Q R C K S M (List ℕ) f c q m r) (wire : List WirePacket)
+    (client_waits server_waits : List Waiting) where
+  -- while bytes are in flight, by the log
+  pub timed_at_both : (validated : Bool) (log : PairLog)
+      → IsTied validated log client server wire client_waits server_waits → HaveTimersByEvents client server
+      → AreTimed validated log client server
+  timed_at_both validated log tied have = (
+    timed_logged validated log Client client tied.ends.own.config tied.ends.own.start tied.ends.own.random
+        tied.ends.own.past tied.ends.own.came tied.ends.logged have.0,
+    timed_logged validated log Server server tied.ends.peer.config tied.ends.peer.start tied.ends.peer.random
+        tied.ends.peer.past tied.ends.peer.came tied.ends.peer_logged have.1,
+  )
+
+  -- a datagram that is held back
+  pub held_at : (end : End) (space : SpaceId) (now size : ℕ) (held : Transmission)
+      (client_after server_after : Sender F Q R C K S M (List ℕ) f c q m r)
+      → TurnsAt end (λ (old new : Sender F Q R C K S M (List ℕ) f c q m r). Continues GoesOnQuietly old new) client
+      server client_after server_after → HoldsAt end (PermitsAnswer space now size (Ok (Held held))) client server
+      → (HaveTimersByEvents client server → HaveTimersByEvents client_after server_after)
+      → IfTied client server wire client_waits server_waits (λ validated log. HoldsWithCause client server
+      client_after server_after validated log (steps.Send end space now size, Ok (Held held)))
+  held_at Client space now size held client_after server_after turn permits timers validated log tied have =
+      held_with_cause validated log Client space now size held client client_after tied.ends.own.config
+      tied.ends.own.start tied.ends.own.random tied.ends.own.past tied.ends.own.came tied.ends.logged turn.0
+      (timers have).0 permits
+  held_at Server space now size held client_after server_after turn permits timers validated log tied have =
+      held_with_cause validated log Server space now size held server server_after tied.ends.peer.config
+      tied.ends.peer.start tied.ends.peer.random tied.ends.peer.past tied.ends.peer.came tied.ends.peer_logged turn.0
+      (timers have).1 permits
+
+module _ {F Q R C K S M : Type 0} {f : _} {c : _} {q : _} {m : _} {r : _}
+    (client server : Sender F Q R C K S M (List ℕ) f c q m r) (wire : List WirePacket)
+    (client_waits server_waits : List Waiting) where
+  -- after a step that keeps the tie and the timers
+  pub never_stuck : (step : PairStep) (answer : Result PairAnswer SenderError)
+      (client_after server_after : Sender F Q R C K S M (List ℕ) f c q m r) (wire_after : List WirePacket)
+      (client_waits_after server_waits_after : List Waiting)
+      → StepKeeps client server wire client_waits server_waits step answer client_after server_after wire_after
+      client_waits_after server_waits_after
+      → (HaveTimersByEvents client server → HaveTimersByEvents client_after server_after)
+      → IfTied client server wire client_waits server_waits (λ validated log. HoldsWithCause client server
+      client_after server_after validated log (step, answer))
+      → NeverStuck client server wire client_waits server_waits step answer client_after server_after
+  never_stuck step answer client_after server_after wire_after client_waits_after server_waits_after keeps timers held
+      validated log tied have = (
+        timed_at_both client_after server_after wire_after client_waits_after server_waits_after validated
+            ((step, answer) ∷ log) (keeps validated log tied).1 (timers have),
+        held validated log tied have,
+      )
