@@ -162,10 +162,11 @@ where
     pub(super) fn lost(&mut self, space: SpaceId, number: u64) -> Result<Answer<Q>, Refusal>
         ensures { Transition (Lost space number) self.old result self.new }
     {
+        let here = &mut self.spaces[space];
         if self.discarded.contains(space) {
             return Err(Refusal::SpaceDiscarded);
         }
-        match self.spaces[space].lose(number) {
+        match here.lose(number) {
             Ok(Some(packet)) => {
                 let probe = self.paths.on_packet_lost(space, number, &packet);
                 Ok(Answer::Lost { probe })

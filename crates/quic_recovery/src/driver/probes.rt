@@ -83,9 +83,10 @@ where
     pub(super) fn take_pending(&mut self, space: SpaceId) -> Result<Answer<Q>, Refusal>
         ensures { Transition (TakePending space) self.old result self.new }
     {
+        let here = &mut self.spaces[space];
         if self.discarded.contains(space) {
             return Err(Refusal::SpaceDiscarded);
         }
-        Ok(Answer::Queue(self.spaces[space].take_pending(self.alloc)))
+        Ok(Answer::Queue(here.take_pending(self.alloc)))
     }
 }

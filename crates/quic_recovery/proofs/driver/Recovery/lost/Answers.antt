@@ -7,12 +7,12 @@ use Rattle.quic_recovery.proofs.driver.Recovery.lost.Goals as goal
 pub on_packet_lost-probe-requires : goal.on_packet_lost-probe-requires
 on_packet_lost-probe-requires g c =
     lost_counted_on _ _ c.args.self.now.balanced _ _ _ _
-    (rw c.index_mut.ensures.value at (sym c.in-Ok-Some.ensures.packet ∙ c.in-Ok-Some.field-0-is))
+    (rw c.index_mut-here.ensures.value at (sym c.in-Ok-Some.ensures.packet ∙ c.in-Ok-Some.field-0-is))
 
-pub invariant_of-self : goal.invariant_of-self
-invariant_of-self g c =
+pub invariant_of-self-in-Ok-Some : goal.invariant_of-self-in-Ok-Some
+invariant_of-self-in-Ok-Some g c =
     let balanced = c.args.self.now.balanced in
-    let there = c.index_mut.ensures.value in
+    let there = c.index_mut-here.ensures.value in
     let handed = rw there at (sym c.in-Ok-Some.ensures.packet ∙ c.in-Ok-Some.field-0-is) in
     let left = rw there at c.in-Ok-Some.ensures.step in
     record {
