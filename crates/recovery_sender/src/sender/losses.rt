@@ -88,6 +88,33 @@ impl Losses {
             is_cut: false,
         }
     }
+
+    /// Returns the same result, rebuilt field by field: else the compiler copies one that comes from a call out of line
+    /// through memory.
+    #[inline(always)]
+    fn by_field(self) -> Self
+        ensures { result ≡ self }
+    {
+        Losses {
+            numbers: self.numbers,
+            probe: by_case(self.probe),
+            congestion: by_case(self.congestion),
+            is_persistent: self.is_persistent,
+            is_black_hole: self.is_black_hole,
+            is_cut: self.is_cut,
+        }
+    }
+}
+
+/// Returns the same value, rebuilt by its case.
+#[inline(always)]
+fn by_case(value: Option<u64>) -> Option<u64>
+    ensures { result ≡ value }
+{
+    match value {
+        Some(value) => Some(value),
+        None => None,
+    }
 }
 
 /// Returns whether an answer reports a black hole.
@@ -394,6 +421,7 @@ where
             return Losses::none(self.alloc);
         };
         self.remove_lost(space, now, due_to_ack, room, largest)
+            .by_field()
     }
 
     /// Does so, with the largest acknowledged number of the space.
