@@ -4,6 +4,7 @@ use Rattle.std.specs.Option.{option_map_or}
 use Rattle.rand_core.specs.Stream.{Stream}
 use Rattle.recovery_events.specs.declared.event.Answer.{Answer}
 use Rattle.recovery_events.specs.declared.event.Event.{Event}
+use Rattle.recovery_events.specs.declared.event.Event.TheVariants.{Send}
 use Rattle.recovery_spaces.specs.Packets.{Packets, packet_at}
 use Rattle.recovery_paths.specs.PathStates.{PathMarks}
 use Rattle.recovery_paths.specs.declared.path_pair.PathName.{PathName}
@@ -33,6 +34,7 @@ use Rattle.recovery_engine.specs.declared.kept.Engine.{Engine}
 use Rattle.recovery_engine.specs.declared.kept.Engine.TheVariants.{Alone, Sends}
 use Rattle.recovery_engine.specs.declared.kept.Form.{Form}
 use Rattle.recovery_engine.specs.declared.kept.Form.TheVariants.{Bare, Handshaking, Established}
+use Rattle.recovery_engine.specs.declared.kept.ItemPacket.{ItemPacket}
 use Rattle.recovery_engine.specs.declared.sending.LastOutcome.{LastOutcome}
 
 abbrev pub ItemEvent : Type 0
@@ -44,6 +46,11 @@ parts_kept (Alone recovery) = state_of recovery.recovery
 parts_kept (Sends sending) = state_in sending.sender
 
 -- ---- events
+
+-- the event of a sent packet (RFC 9002, A.5)
+abbrev pub sends : ItemPacket → ItemEvent
+sends packet =
+    Send packet.space packet.now packet.size packet.ack_eliciting packet.largest_acked packet.queue tt
 
 -- a bare recovery accepts each event, and a sender those that pass
 abbrev pub AcceptsEvent : Engine → ItemEvent → Type 0

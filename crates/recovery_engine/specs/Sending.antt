@@ -15,7 +15,6 @@ use Rattle.recovery_sender.specs.Spaces.{packets_in}
 use Rattle.recovery_sender.specs.Steps as Steps
 use Rattle.recovery_sender.specs.Steps.{CompletesCall, marked}
 use Rattle.recovery_sender.specs.Timeouts.{TimeoutResult}
-use Rattle.recovery_losses.specs.declared.frames.Ack.{Ack}
 use Rattle.recovery_sender.specs.declared.sender.acks.Acknowledged.{Acknowledged}
 use Rattle.recovery_sender.specs.declared.sender.acks.EcnOutcome.{EcnOutcome}
 use Rattle.recovery_sender.specs.declared.sender.acks.EcnOutcome.TheVariants.{Quiet, Marked, Failed}
@@ -41,6 +40,7 @@ use Rattle.recovery_engine.specs.declared.sending.Call.{Call}
 use Rattle.recovery_engine.specs.declared.sending.Call.TheVariants.{Transmit, TakeAck, Expire, Discard, RetransmitAll, HandshakeKeys, HandshakeConfirmed, PeerDelay, InitialRtt, Challenge}
 use Rattle.recovery_engine.specs.declared.sending.Sending.{Sending}
 use Rattle.recovery_engine.specs.declared.sending.LastOutcome.{LastOutcome}
+use Rattle.recovery_engine.specs.declared.sending.TakenAck.{TakenAck}
 use Rattle.recovery_engine.specs.declared.sending.OutcomeView.{OutcomeView}
 use Rattle.recovery_engine.specs.declared.spelling.EncodedReply.{EncodedReply}
 
@@ -112,35 +112,34 @@ abbrev pub HasRoomFor : AckRoom → NewlyAcked → List ℕ → Type 0
 HasRoomFor room newly packets = (length packets ≤ room.packets) × (vec_capacity newly.lost ≤ room.lost)
 
 -- the sender processes the frame, if there is that room, or rejects it and nothing changes
-pub record IsTaken (space : SpaceId) (now : ℕ) (ranges : List (ℕ × ℕ)) (ack : Ack) (room : AckRoom) (old : Sending)
-    (spelling : EncodedReply)
+pub record IsTaken (frame : TakenAck) (ranges : List (ℕ × ℕ)) (old : Sending) (spelling : EncodedReply)
     (new : Sending) : Type 0 where
   pub reply : Result Acknowledged SenderError
-  pub comes : AckResult space now ranges ack old.sender new.sender reply
-  pub fits : IfOk reply (λ acked. (newly : NewlyAcked) × IsAckAcceptable space ranges old.sender newly
-      × HasRoomFor room newly (packets_listed (packets_in (state_in old.sender) space) acked.numbers.items))
+  pub comes : AckResult frame.space frame.now ranges frame.ack old.sender new.sender reply
+  pub fits : IfOk reply (λ acked. (newly : NewlyAcked) × IsAckAcceptable frame.space ranges old.sender newly
+      × HasRoomFor frame.room newly (packets_listed (packets_in (state_in old.sender) frame.space) acked.numbers.items))
   pub spells : spelling ≡ spelled_by acknowledged_spelled reply
-  pub told : IsOutcomeOfAck (packets_in (state_in old.sender) space) reply old.told new.told
+  pub told : IsOutcomeOfAck (packets_in (state_in old.sender) frame.space) reply old.told new.told
 
 abbrev pub room_spelled : NewlyAcked → List ℕ → EncodedReply
 room_spelled newly packets =
     record (plain ANSWER_NEEDS_ROOM) { first = length packets; second = vec_capacity newly.lost }
 
 -- there is too little room for a valid frame: nothing changes, and the reply states how much is needed
-pub record NeedsRoom (space : SpaceId) (ranges : List (ℕ × ℕ)) (room : AckRoom) (old : Sending)
-    (spelling : EncodedReply)
+pub record NeedsRoom (frame : TakenAck) (ranges : List (ℕ × ℕ)) (old : Sending) (spelling : EncodedReply)
     (new : Sending) : Type 0 where
   pub newly : NewlyAcked
-  pub acceptable : IsAckAcceptable space ranges old.sender newly
-  pub lacks : ¬ HasRoomFor room newly (packets_listed (packets_in (state_in old.sender) space) newly.numbers.items)
+  pub acceptable : IsAckAcceptable frame.space ranges old.sender newly
+  pub lacks : ¬ HasRoomFor frame.room newly
+      (packets_listed (packets_in (state_in old.sender) frame.space) newly.numbers.items)
   pub spells : spelling
-      ≡ room_spelled newly (packets_listed (packets_in (state_in old.sender) space) newly.numbers.items)
+      ≡ room_spelled newly (packets_listed (packets_in (state_in old.sender) frame.space) newly.numbers.items)
   pub sender : new.sender ≡ old.sender
   pub told : new.told ≡ old.told
 
-abbrev pub AckReply : SpaceId → ℕ → List (ℕ × ℕ) → Ack → AckRoom → Sending → EncodedReply → Sending → Type 0
-AckReply space now ranges ack room old spelling new =
-    IsTaken space now ranges ack room old spelling new ⊎ NeedsRoom space ranges room old spelling new
+abbrev pub AckReply : TakenAck → List (ℕ × ℕ) → Sending → EncodedReply → Sending → Type 0
+AckReply frame ranges old spelling new =
+    IsTaken frame ranges old spelling new ⊎ NeedsRoom frame ranges old spelling new
 
 -- with its ranges as given, or there is no memory for them
 abbrev pub range_given : AckRange → ℕ × ℕ
@@ -153,9 +152,9 @@ pub record LacksRangeMemory (given : List AckRange) (old : Sending) (spelling : 
   pub sender : new.sender ≡ old.sender
   pub told : new.told ≡ old.told
 
-abbrev pub AckFrameReply : SpaceId → ℕ → List AckRange → Ack → AckRoom → Sending → EncodedReply → Sending → Type 0
-AckFrameReply space now given ack room old spelling new =
-    AckReply space now (map range_given given) ack room old spelling new ⊎ LacksRangeMemory given old spelling new
+abbrev pub AckFrameReply : TakenAck → List AckRange → Sending → EncodedReply → Sending → Type 0
+AckFrameReply frame given old spelling new =
+    AckReply frame (map range_given given) old spelling new ⊎ LacksRangeMemory given old spelling new
 
 -- a timeout: the losses that it finds are stored (RFC 9002, A.9)
 abbrev pub IsOutcomeOfTimeout : Result Timeout SenderError → LastOutcome → LastOutcome → Type 0
@@ -252,8 +251,7 @@ pub record ChallengeReply (content : Option ℕ) (pending : Bool) (old : Sending
 abbrev pub SenderCallReply : Call → List AckRange → Sending → EncodedReply → Sending → Type 0
 SenderCallReply (Transmit now bytes space in_flight) given old spelling new =
     TransmitReply now bytes space in_flight old spelling new
-SenderCallReply (TakeAck space now ack room) given old spelling new =
-    AckFrameReply space now given ack room old spelling new
+SenderCallReply (TakeAck frame) given old spelling new = AckFrameReply frame given old spelling new
 SenderCallReply (Expire now) given old spelling new = TimeoutReply now old spelling new
 SenderCallReply (Discard space now) given old spelling new = DiscardReply space now old spelling new
 SenderCallReply (RetransmitAll space now) given old spelling new = RetransmitAllReply space now old spelling new

@@ -5,16 +5,15 @@ ghost use Rattle.recovery_base.specs.Units.{number_limit};
 ghost use Rattle.rand_pcg.specs.Pcg.{pcg32};
 ghost use Rattle.quic_recovery.specs.State.{state_of};
 ghost use Rattle.recovery_packet_numbers.specs.Skips.{IsSkips};
-ghost use Rattle.recovery_events.specs.declared.event.Event.TheVariants.{Send};
 ghost use Rattle.recovery_sender.specs.Calls.{IsPassedThrough, EventResult};
-ghost use Rattle.recovery_engine.specs.Kept.{by_sender, numbers_told, packets_told, parts_kept, pto_count_of, EventOutcome, IsFreshAlone, IsFreshEstablished, IsFreshSender, IsFresh, AcceptsEvent, PassesEvent, MarksKept};
+ghost use Rattle.recovery_engine.specs.Kept.{by_sender, numbers_told, packets_told, parts_kept, pto_count_of, sends, EventOutcome, IsFreshAlone, IsFreshEstablished, IsFreshSender, IsFresh, AcceptsEvent, PassesEvent, MarksKept};
 ghost use Rattle.recovery_engine.specs.Sending.{told_view, ProbeUnlessNoSender, UnlessNoSender};
 ghost use Rattle.recovery_engine.specs.declared.sending.Call.TheVariants.{TakeAck};
 ghost use Rattle.recovery_engine.specs.Replies.{IsWritten};
 ghost use Rattle.recovery_engine.specs.SenderViews.{sender_view_of};
 
 use crate::controllers::ChosenConfig;
-use crate::sending::{AckRange, AckRoom, Call, OutcomeView, Sending};
+use crate::sending::{AckRange, Call, OutcomeView, Sending, TakenAck};
 use crate::spelling::{EncodedReply, copy_numbers};
 use crate::views::SenderView;
 use quic_recovery::{LiveRecovery, Recovery};
@@ -23,7 +22,7 @@ use recovery_base::below::{NoMemory, SpaceId};
 use recovery_base::time::Instant;
 use recovery_events::event::{Answer, Event, Refusal};
 use recovery_history::RecoveryConfig;
-use recovery_losses::{Ack, Side};
+use recovery_losses::Side;
 use recovery_paths::path_pair::PathName;
 use recovery_paths::paths::PathMarks;
 use recovery_queue::items::ItemQueue;
@@ -45,6 +44,23 @@ pub enum Form {
     Handshaking(Side),
     /// A sender of this side, once the handshake is confirmed.
     Established(Side),
+}
+
+/// A packet that was sent, with its items: the fields of the event `Send` (RFC 9002, A.1).
+#[derive(Drop)]
+pub struct ItemPacket {
+    /// The packet number space.
+    pub space: SpaceId,
+    /// When it is sent.
+    pub now: Instant,
+    /// Its size in bytes; 0 if congestion control does not count it.
+    pub size: u16,
+    /// Whether it is ack-eliciting (RFC 9002, 2).
+    pub ack_eliciting: bool,
+    /// The largest packet number that its ACK frame acknowledges, if it has one.
+    pub largest_acked: Option<u64>,
+    /// Its items, which are retransmitted if it is lost (RFC 9000, 13.3).
+    pub queue: ItemQueue,
 }
 
 /// The engine of a stack.
@@ -72,22 +88,20 @@ fn passed(sending: &mut Sending, event: Event<ItemQueue>) -> Result<Answer<ItemQ
 
 /// Records a sent packet: the event `Send`. Unlike [`passed`], whose frame has room for every event, it is quick.
 #[inline(always)]
-fn sent(
-    sending: &mut Sending,
-    space: SpaceId,
-    now: Instant,
-    size: u16,
-    ack_eliciting: bool,
-    largest_acked: Option<u64>,
-    queue: ItemQueue,
-) -> Result<Answer<ItemQueue>, Refusal>
-    ensures takes { EventResult (Send space now size ack_eliciting largest_acked queue tt)
+fn sent(sending: &mut Sending, packet: ItemPacket) -> Result<Answer<ItemQueue>, Refusal>
+    ensures takes { EventResult (sends packet)
         sending.old.sender sending.new.sender (by_sender result) }
     ensures told { sending.new.told ≡ sending.old.told }
 {
-    let sent = sending
-        .sender
-        .send(space, now, size, ack_eliciting, largest_acked, queue, ());
+    let sent = sending.sender.send(
+        packet.space,
+        packet.now,
+        packet.size,
+        packet.ack_eliciting,
+        packet.largest_acked,
+        packet.queue,
+        (),
+    );
     match sent {
         Ok(answer) => Ok(answer),
         Err(SenderError::Event(refusal)) => Err(refusal),
@@ -184,17 +198,14 @@ impl Engine {
         }
     }
 
-    /// Returns whether this is a sender that passes an event, other than that of a sent packet.
+    /// Returns whether this is a sender that passes an event.
     #[inline(always)]
     pub fn is_passed(&self, event: &Event<ItemQueue>) -> bool
         ensures { result ≡ true → PassesEvent self.now event.now }
     {
         match self {
             Engine::Alone(_) => false,
-            Engine::Sends(_) => match event {
-                Event::Send { .. } => false,
-                other => passes(other),
-            },
+            Engine::Sends(_) => passes(event),
         }
     }
 
@@ -224,37 +235,20 @@ impl Engine {
 
     /// Records a sent packet: the event `Send`, without the match over all events.
     #[inline(always)]
-    pub fn send(
-        &mut self,
-        space: SpaceId,
-        now: Instant,
-        size: u16,
-        ack_eliciting: bool,
-        largest_acked: Option<u64>,
-        queue: ItemQueue,
-    ) -> Result<Answer<ItemQueue>, Refusal>
-        ensures { EventOutcome self.old
-            (Send space now size ack_eliciting largest_acked queue tt) result self.new }
+    pub fn send(&mut self, packet: ItemPacket) -> Result<Answer<ItemQueue>, Refusal>
+        ensures { EventOutcome self.old (sends packet) result self.new }
     {
         match self {
             Engine::Alone(recovery) => recovery.send(
-                space,
-                now,
-                size,
-                ack_eliciting,
-                largest_acked,
-                queue,
+                packet.space,
+                packet.now,
+                packet.size,
+                packet.ack_eliciting,
+                packet.largest_acked,
+                packet.queue,
                 (),
             ),
-            Engine::Sends(sending) => sent(
-                sending,
-                space,
-                now,
-                size,
-                ack_eliciting,
-                largest_acked,
-                queue,
-            ),
+            Engine::Sends(sending) => sent(sending, packet),
         }
     }
 
@@ -335,20 +329,12 @@ impl Engine {
 
     /// Processes an ACK frame: the call [`Call::TakeAck`], without the match over all calls.
     #[inline(always)]
-    pub fn take_ack(
-        &mut self,
-        alloc: Global,
-        space: SpaceId,
-        now: Instant,
-        ranges: &[AckRange],
-        ack: Ack,
-        room: AckRoom,
-    ) -> EncodedReply
-        ensures { UnlessNoSender (TakeAck space now ack room) ranges.now self.old result self.new }
+    pub fn take_ack(&mut self, alloc: Global, frame: TakenAck, ranges: &[AckRange]) -> EncodedReply
+        ensures { UnlessNoSender (TakeAck frame) ranges.now self.old result self.new }
     {
         match self {
             Engine::Alone(_) => EncodedReply::no_sender(),
-            Engine::Sends(sending) => sending.take_ack(alloc, space, now, ranges, ack, room),
+            Engine::Sends(sending) => sending.take_ack(alloc, frame, ranges),
         }
     }
 

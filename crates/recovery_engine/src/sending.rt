@@ -67,6 +67,19 @@ pub struct AckRoom {
     pub lost: u64,
 }
 
+/// A received ACK frame, except its ranges, and the room that the caller has for what it results in.
+#[derive(Clone, Copy)]
+pub struct TakenAck {
+    /// The space of the packets that it acknowledges.
+    pub space: SpaceId,
+    /// When it was received.
+    pub now: Instant,
+    /// Its fields, and what the caller knows at its arrival.
+    pub ack: Ack,
+    /// The room for what it results in.
+    pub room: AckRoom,
+}
+
 /// A call of a sender; the ranges of an ACK frame are passed next to it.
 #[derive(Clone, Copy)]
 pub enum Call {
@@ -78,12 +91,7 @@ pub enum Call {
         in_flight: bool,
     },
     /// An ACK frame was received.
-    TakeAck {
-        space: SpaceId,
-        now: Instant,
-        ack: Ack,
-        room: AckRoom,
-    },
+    TakeAck(TakenAck),
     /// The loss detection timer may be due.
     Expire(Instant),
     /// Discards a space with its keys.
@@ -413,12 +421,7 @@ impl Sending {
                 space,
                 in_flight,
             } => self.transmit(now, bytes, space, in_flight),
-            Call::TakeAck {
-                space,
-                now,
-                ack,
-                room,
-            } => self.take_frame_apart(alloc, space, now, ranges, ack, room),
+            Call::TakeAck(frame) => self.take_frame_apart(alloc, frame, ranges),
             Call::Expire(now) => self.expire(now),
             Call::Discard { space, now } => self.discard(space, now),
             Call::RetransmitAll { space, now } => self.retransmit_all(space, now),
@@ -448,20 +451,13 @@ impl Sending {
     /// Processes a frame with these ranges: the call [`Call::TakeAck`]. One of 1-RTT packets is processed inline, and
     /// the compiler knows their space there.
     #[inline(always)]
-    pub fn take_ack(
-        &mut self,
-        alloc: Global,
-        space: SpaceId,
-        now: Instant,
-        given: &[AckRange],
-        ack: Ack,
-        room: AckRoom,
-    ) -> EncodedReply
-        ensures { AckFrameReply space now given.now ack room self.old result self.new }
+    pub fn take_ack(&mut self, alloc: Global, frame: TakenAck, given: &[AckRange]) -> EncodedReply
+        ensures { AckFrameReply frame given.now self.old result self.new }
     {
-        match space {
-            SpaceId::Data => self.take_frame(alloc, space, now, given, ack, room),
-            _ => self.take_frame_apart(alloc, space, now, given, ack, room),
+        match frame.space {
+            SpaceId::Data => self.take_frame(alloc, frame, given),
+            // Rebuilt: else every frame is written to memory for the call out of line.
+            space => self.take_frame_apart(alloc, TakenAck { space, ..frame }, given),
         }
     }
 
@@ -470,53 +466,42 @@ impl Sending {
     fn take_frame_apart(
         &mut self,
         alloc: Global,
-        space: SpaceId,
-        now: Instant,
+        frame: TakenAck,
         given: &[AckRange],
-        ack: Ack,
-        room: AckRoom,
     ) -> EncodedReply
-        ensures { AckFrameReply space now given.now ack room self.old result self.new }
+        ensures { AckFrameReply frame given.now self.old result self.new }
     {
-        self.take_frame(alloc, space, now, given, ack, room)
+        self.take_frame(alloc, frame, given)
     }
 
     /// Processes a frame with these ranges. All memory is allocated before the sender changes.
     #[inline(always)]
-    fn take_frame(
-        &mut self,
-        alloc: Global,
-        space: SpaceId,
-        now: Instant,
-        given: &[AckRange],
-        ack: Ack,
-        room: AckRoom,
-    ) -> EncodedReply
-        ensures { AckFrameReply space now given.now ack room self.old result self.new }
+    fn take_frame(&mut self, alloc: Global, frame: TakenAck, given: &[AckRange]) -> EncodedReply
+        ensures { AckFrameReply frame given.now self.old result self.new }
     {
         if !fill(&mut self.ranges, given) {
             return EncodedReply::no_memory();
         }
         let numbers = mem::replace(&mut self.numbers_room, Vec::new(alloc));
-        let newly = match self.sender.newly_acked(space, &self.ranges, numbers) {
+        let newly = match self.sender.newly_acked(frame.space, &self.ranges, numbers) {
             Ok(newly) => newly,
             Err(refused) => return spell_refused(refused),
         };
-        let Some(here) = self.sender.recovery().space(space) else {
+        let Some(here) = self.sender.recovery().space(frame.space) else {
             unreachable!();
         };
         if !list_packets(&here.sent_packets, &newly.numbers, &mut self.packets_room) {
             self.numbers_room = newly.numbers;
             return EncodedReply::no_memory();
         }
-        if !has_room_for(&room, &newly, &self.packets_room) {
+        if !has_room_for(&frame.room, &newly, &self.packets_room) {
             let needed = spell_room(&newly, &self.packets_room);
             self.numbers_room = newly.numbers;
             return needed;
         }
         let acked = self
             .sender
-            .on_newly_acked(space, now, &self.ranges, ack, newly);
+            .on_newly_acked(frame.space, frame.now, &self.ranges, frame.ack, newly);
         let reply = spell_acknowledged(&acked);
         self.keep(acked);
         reply

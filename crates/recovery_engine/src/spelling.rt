@@ -91,6 +91,23 @@ impl EncodedReply {
         }
     }
 
+    /// Returns the same reply, rebuilt field by field, so that it stays in registers. Without this the compiler copies
+    /// the bytes of a returned reply through memory if a function out of line may return it too.
+    #[inline(always)]
+    pub fn by_field(self) -> EncodedReply
+        ensures { result ≡ self }
+    {
+        EncodedReply {
+            kind: self.kind,
+            refusal: self.refusal,
+            flag: self.flag,
+            other: self.other,
+            size: self.size,
+            first: self.first,
+            second: self.second,
+        }
+    }
+
     /// Returns an answer without contents.
     pub fn plain(kind: u8) -> EncodedReply
         ensures { result ≡ plain kind }

@@ -6,6 +6,7 @@ ghost use Rattle.recovery_engine.specs.Replies.{IsWritten};
 ghost use Rattle.recovery_events.specs.declared.event.Event.TheVariants.{Acked, DiscardSpace, Lost, Received, Send};
 
 use recovery_base::time::Instant;
+use recovery_engine::kept::ItemPacket;
 use recovery_engine::spelling::EncodedReply;
 use recovery_events::event::Event;
 use recovery_stack::codes::{copy_items, maybe, queue_of, space_coded};
@@ -63,12 +64,14 @@ pub extern "C" fn recovery_ffi_send(
     match queue_of(alloc, items) {
         Ok(queue) => handle.send(
             alloc,
-            space,
-            Instant::from_nanos(now),
-            size,
-            ack_eliciting,
-            maybe(has_largest, largest),
-            queue,
+            ItemPacket {
+                space,
+                now: Instant::from_nanos(now),
+                size,
+                ack_eliciting,
+                largest_acked: maybe(has_largest, largest),
+                queue,
+            },
         ),
         Err(_) => EncodedReply::no_memory(),
     }

@@ -6,7 +6,7 @@ ghost use Rattle.recovery_stack.specs.Answers.{ReadsHandle};
 ghost use Rattle.recovery_stack.specs.Codes.{maybe, side_coded, space_coded, span};
 ghost use Rattle.recovery_engine.specs.Kept.{numbers_told, packets_told, pto_count_of};
 ghost use Rattle.recovery_stack.specs.Made.{NewOr};
-ghost use Rattle.recovery_stack.specs.SenderCalls.{frame_given, room_given, CallsSender, AsksAck, CallsSenderTo, ProbesIn};
+ghost use Rattle.recovery_stack.specs.SenderCalls.{frame_given, CallsSender, AsksAck, CallsSenderTo, ProbesIn};
 ghost use Rattle.recovery_engine.specs.declared.kept.Form.TheVariants.{Handshaking, Established};
 ghost use Rattle.recovery_engine.specs.Sending.{no_told, told_view};
 ghost use Rattle.recovery_engine.specs.Replies.{IsWritten};
@@ -130,7 +130,7 @@ pub extern "C" fn recovery_ffi_sender_ack(
     frame: &AckFrame,
     ranges: &[AckRange],
 ) -> EncodedReply
-    ensures { AsksAck (frame_given space frame.now) now (room_given frame.now) ranges.now
+    ensures { AsksAck (frame_given space now frame.now) ranges.now
         handle.old.slot.held result handle.new.slot.held }
 {
     handle.take_ack(alloc, space, now, frame, ranges)

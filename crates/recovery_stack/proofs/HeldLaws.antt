@@ -1,20 +1,17 @@
 -- What holds for a handle follows from what holds for the stack in it.
-use Rattle.std.proofs.Common.{◌≡◌, ℕ, Bool, List, Option, Some, subst, sym}
-use Rattle.recovery_events.specs.declared.event.Event.TheVariants.{Send}
+use Rattle.std.proofs.Common.{◌≡◌, Bool, List, Option, Some, subst, sym}
 use Rattle.recovery_paths.specs.PathStates.{PathMarks}
 use Rattle.recovery_paths.specs.declared.path_pair.PathName.{PathName}
 use Rattle.recovery_stack.specs.Answers.{HandleApplies, AppliesOrRejects}
-use Rattle.recovery_engine.specs.Kept.{AcceptsEvent, ItemEvent, PassesEvent}
+use Rattle.recovery_engine.specs.Kept.{sends, AcceptsEvent, ItemEvent, PassesEvent}
 use Rattle.recovery_engine.specs.declared.kept.Engine.{Engine}
 use Rattle.recovery_engine.specs.declared.kept.Engine.TheVariants.{Alone, Sends}
+use Rattle.recovery_engine.specs.declared.kept.ItemPacket.{ItemPacket}
 use Rattle.recovery_stack.specs.Marks.{MarksStack, SetsMarks}
 use Rattle.recovery_base.specs.declared.below.SpaceId.{SpaceId}
-use Rattle.recovery_losses.specs.declared.frames.Ack.{Ack}
-use Rattle.recovery_stack.specs.SenderCalls.{AsksAck, AsksStack, AsksWith, ProbesHandle, ProbesStack}
+use Rattle.recovery_stack.specs.SenderCalls.{AsksStack, AsksWith, ProbesHandle, ProbesStack}
 use Rattle.recovery_engine.specs.declared.sending.AckRange.{AckRange}
-use Rattle.recovery_engine.specs.declared.sending.AckRoom.{AckRoom}
 use Rattle.recovery_engine.specs.declared.sending.Call.{Call}
-use Rattle.recovery_engine.specs.declared.sending.Call.TheVariants.{TakeAck}
 use Rattle.recovery_engine.specs.declared.spelling.EncodedReply.{EncodedReply}
 use Rattle.recovery_stack.specs.declared.stack.Stack.{Stack}
 
@@ -31,10 +28,9 @@ passed_accepted (Alone recovery) event passes = tt
 passed_accepted (Sends sending) event passes = passes
 
 -- it accepts a packet that is sent
-pub send_accepted : (kept : Engine) (space : SpaceId) (now size : ℕ) (ack_eliciting : Bool) (largest : Option ℕ)
-    (queue : List ℕ) → AcceptsEvent kept (Send space now size ack_eliciting largest queue tt)
-send_accepted (Alone recovery) space now size ack_eliciting largest queue = tt
-send_accepted (Sends sending) space now size ack_eliciting largest queue = tt
+pub send_accepted : (kept : Engine) (packet : ItemPacket) → AcceptsEvent kept (sends packet)
+send_accepted (Alone recovery) packet = tt
+send_accepted (Sends sending) packet = tt
 
 pub asks_held : {call : Call} {given : List AckRange} {spelling : EncodedReply} {old new : Option Stack}
     (was is : Stack)
@@ -58,13 +54,3 @@ marks_held {name} {marks} {is_set} {given} {old} {new} was is gives held holds c
     subst (λ (g : Option PathMarks). SetsMarks name g is_set old new) (sym gives)
     (subst (λ (o : Option Stack). SetsMarks name (Some marks) is_set o new) (sym held)
     (record { is = is; holds = holds; changes = changes }))
-
-pub frame_taken : {named : Option (SpaceId × Ack)} {space : SpaceId} {ack : Ack} {moment now : ℕ}
-    {room limit : AckRoom} (given : List AckRange) (old : Option Stack) (spelling : EncodedReply) (new : Option Stack)
-    → Some (space, ack) ≡ named → moment ≡ now → room ≡ limit
-    → AsksWith old (TakeAck space moment ack room) given spelling new
-    → AsksAck named now limit given old spelling new
-frame_taken {named} {space} {ack} {moment} {now} {room} {limit} given old spelling new is at has asks =
-    subst (λ (n : Option (SpaceId × Ack)). AsksAck n now limit given old spelling new) is
-    (subst (λ (m : ℕ). AsksWith old (TakeAck space m ack limit) given spelling new) at
-    (subst (λ (r : AckRoom). AsksWith old (TakeAck space moment ack r) given spelling new) has asks))

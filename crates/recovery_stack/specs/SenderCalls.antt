@@ -10,6 +10,7 @@ use Rattle.recovery_engine.specs.declared.sending.AckRange.{AckRange}
 use Rattle.recovery_engine.specs.declared.sending.AckRoom.{AckRoom}
 use Rattle.recovery_engine.specs.declared.sending.Call.{Call}
 use Rattle.recovery_engine.specs.declared.sending.Call.TheVariants.{TakeAck}
+use Rattle.recovery_engine.specs.declared.sending.TakenAck.{TakenAck}
 use Rattle.recovery_engine.specs.declared.spelling.EncodedReply.{EncodedReply}
 use Rattle.recovery_stack.specs.Answers.{IsBadArgument}
 use Rattle.recovery_stack.specs.Codes.{counts, space_coded, span}
@@ -92,17 +93,19 @@ ack_with frame delay = record {
 abbrev pub ack_given : AckFrame → Option Ack
 ack_given frame = option_map (ack_with frame) (span frame.delay_secs frame.delay_nanos)
 
-abbrev pub frame_given : ℕ → AckFrame → Option (SpaceId × Ack)
-frame_given space frame =
-    option_and_then (λ space. option_map (λ ack. (space, ack)) (ack_given frame)) (space_coded space)
-
 -- the room that the caller has for the outcome: room for all, if it does not limit it
 abbrev pub room_given : AckFrame → AckRoom
 room_given frame = if frame.is_limited then record { packets = frame.packets_room; lost = frame.lost_room }
     else record { packets = largest_u64; lost = largest_u64 }
 
-abbrev pub AsksAck : Option (SpaceId × Ack) → ℕ → AckRoom → List AckRange → Option Stack → EncodedReply → Option Stack
-    → Type 0
-AsksAck None now room given old spelling new = IsBadArgument old spelling new
-AsksAck (Some named) now room given old spelling new =
-    AsksWith old (TakeAck named.0 now named.1 room) given spelling new
+abbrev pub frame_with : AckFrame → ℕ → SpaceId → Ack → TakenAck
+frame_with frame now space ack = record { space = space; now = now; ack = ack; room = room_given frame }
+
+-- the space exists too
+abbrev pub frame_given : ℕ → ℕ → AckFrame → Option TakenAck
+frame_given space now frame =
+    option_and_then (λ space. option_map (frame_with frame now space) (ack_given frame)) (space_coded space)
+
+abbrev pub AsksAck : Option TakenAck → List AckRange → Option Stack → EncodedReply → Option Stack → Type 0
+AsksAck None given old spelling new = IsBadArgument old spelling new
+AsksAck (Some frame) given old spelling new = AsksWith old (TakeAck frame) given spelling new

@@ -2,9 +2,8 @@
 ghost use Rattle.std.specs.Prelude.{◌≡◌, ◌≤◌, Some, None, is_some, IfSome, MatchOption};
 ghost use Rattle.std.specs.List.{All};
 ghost use Rattle.recovery_base.specs.Ids.{longest_cid};
-ghost use Rattle.recovery_engine.specs.Kept.{PassesEvent};
+ghost use Rattle.recovery_engine.specs.Kept.{sends, PassesEvent};
 ghost use Rattle.recovery_engine.specs.declared.sending.Call.TheVariants.{TakeAck};
-ghost use Rattle.recovery_events.specs.declared.event.Event.TheVariants.{Send};
 ghost use Rattle.recovery_stack.specs.Answers.{AppliesToHeld, HandleApplies, IsBadArgument, IssuesIdsOrNoMemory};
 ghost use Rattle.recovery_stack.specs.Held.{HoldsIf};
 ghost use Rattle.recovery_stack.specs.SenderCalls.{CallsSender, AsksWith, ProbesHandle};
@@ -14,10 +13,10 @@ use crate::slot::Slot;
 use crate::stack::Stack;
 use recovery_base::below::SpaceId;
 use recovery_base::time::Instant;
-use recovery_engine::sending::{AckRange, AckRoom, Call};
+use recovery_engine::kept::ItemPacket;
+use recovery_engine::sending::{AckRange, Call, TakenAck};
 use recovery_engine::spelling::EncodedReply;
 use recovery_events::event::Event;
-use recovery_losses::Ack;
 use recovery_queue::items::ItemQueue;
 use std::alloc::Global;
 
@@ -78,17 +77,8 @@ impl Handle {
         }
         let mut stack = self.slot.take(alloc);
         if stack.kept.is_passed(&event) {
-            // Field by field: else the reply of a bare recovery is written to memory and copied too.
             let passed = pass(&mut self.slot, stack, event);
-            return EncodedReply {
-                kind: passed.kind,
-                refusal: passed.refusal,
-                flag: passed.flag,
-                other: passed.other,
-                size: passed.size,
-                first: passed.first,
-                second: passed.second,
-            };
+            return passed.by_field();
         }
         let reply = stack.apply(event);
         self.slot.put(stack);
@@ -97,26 +87,16 @@ impl Handle {
 
     /// Records a sent packet: the event `Send`, without the match over all events; an error if no stack is held.
     #[inline(always)]
-    pub fn send(
-        &mut self,
-        alloc: Global,
-        space: SpaceId,
-        now: Instant,
-        size: u16,
-        ack_eliciting: bool,
-        largest_acked: Option<u64>,
-        queue: ItemQueue,
-    ) -> EncodedReply
-        ensures { HandleApplies self.old.slot.held
-            (Send space now size ack_eliciting largest_acked queue tt) result self.new.slot.held }
+    pub fn send(&mut self, alloc: Global, packet: ItemPacket) -> EncodedReply
+        ensures { HandleApplies self.old.slot.held (sends packet) result self.new.slot.held }
     {
         if !self.holds {
             return EncodedReply::no_recovery();
         }
         let mut stack = self.slot.take(alloc);
-        let reply = stack.send(space, now, size, ack_eliciting, largest_acked, queue);
+        let reply = stack.send(packet);
         self.slot.put(stack);
-        reply
+        reply.by_field()
     }
 
     /// Processes an ACK frame of a sender; an error if no stack is held.
@@ -124,22 +104,18 @@ impl Handle {
     pub fn take_frame(
         &mut self,
         alloc: Global,
-        space: SpaceId,
-        now: Instant,
+        frame: TakenAck,
         ranges: &[AckRange],
-        ack: Ack,
-        room: AckRoom,
     ) -> EncodedReply
-        ensures { AsksWith self.old.slot.held (TakeAck space now ack room) ranges.now result
-            self.new.slot.held }
+        ensures { AsksWith self.old.slot.held (TakeAck frame) ranges.now result self.new.slot.held }
     {
         if !self.holds {
             return EncodedReply::no_recovery();
         }
         let mut stack = self.slot.take(alloc);
-        let reply = stack.take_ack(alloc, space, now, ranges, ack, room);
+        let reply = stack.take_ack(alloc, frame, ranges);
         self.slot.put(stack);
-        reply
+        reply.by_field()
     }
 
     /// Makes a call of a sender other than an ACK frame; an error if no stack is held. Inlined, so that no export has

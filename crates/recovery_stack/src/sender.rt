@@ -10,9 +10,9 @@ ghost use Rattle.recovery_stack.specs.Codes.{side_coded};
 
 use crate::codes::{space_coded, span};
 use crate::handle::Handle;
-use recovery_base::below::{EcnCounts, SpaceId};
+use recovery_base::below::EcnCounts;
 use recovery_base::time::Instant;
-use recovery_engine::sending::{AckRange, AckRoom, OutcomeView};
+use recovery_engine::sending::{AckRange, AckRoom, OutcomeView, TakenAck};
 use recovery_engine::spelling::EncodedReply;
 use recovery_engine::views::SenderView;
 use recovery_losses::{Ack, Side};
@@ -63,14 +63,6 @@ fn ack_of(given: &AckFrame) -> Option<Ack>
     })
 }
 
-/// Returns the space and the fields of a frame.
-#[inline(always)]
-fn frame_of(space: u8, given: &AckFrame) -> Option<(SpaceId, Ack)>
-    ensures { result ≡ frame_given space given.now }
-{
-    Some((space_coded(space)?, ack_of(given)?))
-}
-
 /// Returns the room that the caller has for the outcome.
 #[inline(always)]
 fn room_of(given: &AckFrame) -> AckRoom
@@ -87,6 +79,19 @@ fn room_of(given: &AckFrame) -> AckRoom
             lost: u64::MAX,
         }
     }
+}
+
+/// Returns a frame that was received in a space, if there is that space and its delay has less than 10^9 nanoseconds.
+#[inline(always)]
+fn frame_of(space: u8, now: u64, given: &AckFrame) -> Option<TakenAck>
+    ensures { result ≡ frame_given space now given.now }
+{
+    Some(TakenAck {
+        space: space_coded(space)?,
+        now: Instant::from_nanos(now),
+        ack: ack_of(given)?,
+        room: room_of(given),
+    })
 }
 
 /// Returns the role of a sender's endpoint.
@@ -109,20 +114,13 @@ impl Handle {
         frame: &AckFrame,
         ranges: &[AckRange],
     ) -> EncodedReply
-        ensures { AsksAck (frame_given space frame.now) now (room_given frame.now) ranges.now
+        ensures { AsksAck (frame_given space now frame.now) ranges.now
             self.old.slot.held result self.new.slot.held }
     {
-        let Some((space, ack)) = frame_of(space, frame) else {
+        let Some(frame) = frame_of(space, now, frame) else {
             return EncodedReply::bad_argument();
         };
-        self.take_frame(
-            alloc,
-            space,
-            Instant::from_nanos(now),
-            ranges,
-            ack,
-            room_of(frame),
-        )
+        self.take_frame(alloc, frame, ranges)
     }
 
     /// Returns the number of consecutive probe timeouts (RFC 9002, 6.2.1); 0 if there is no sender.

@@ -5,10 +5,9 @@ ghost use Rattle.recovery_base.specs.Units.{number_limit};
 ghost use Rattle.rand_pcg.specs.Pcg.{pcg32};
 ghost use Rattle.recovery_packet_numbers.specs.Skips.{IsSkips};
 ghost use Rattle.quic_recovery.specs.State.{state_of};
-ghost use Rattle.recovery_engine.specs.Kept.{parts_kept, AcceptsEvent, PassesEvent};
+ghost use Rattle.recovery_engine.specs.Kept.{parts_kept, sends, AcceptsEvent, PassesEvent};
 ghost use Rattle.recovery_engine.specs.Replies.{taken_after, token_after};
 ghost use Rattle.recovery_engine.specs.declared.sending.Call.TheVariants.{TakeAck};
-ghost use Rattle.recovery_events.specs.declared.event.Event.TheVariants.{Send};
 ghost use Rattle.recovery_stack.specs.Made.{IsNewHandle};
 ghost use Rattle.recovery_stack.specs.Answers.{EventReply, AppliesOrRejects};
 ghost use Rattle.recovery_stack.specs.SenderCalls.{AsksStack, ProbesStack};
@@ -18,13 +17,12 @@ use rand_pcg::Pcg32;
 use recovery_base::below::{NoMemory, ResetToken, SpaceId};
 use recovery_base::time::Instant;
 use recovery_engine::controllers::{Chosen, ChosenConfig};
-use recovery_engine::kept::{Engine, Form};
+use recovery_engine::kept::{Engine, Form, ItemPacket};
 use recovery_engine::numbers::ANSWER_QUEUE;
-use recovery_engine::sending::{AckRange, AckRoom, Call};
+use recovery_engine::sending::{AckRange, Call, TakenAck};
 use recovery_engine::spelling::{EncodedReply, encode_reply};
 use recovery_events::event::{Answer, Event, Refusal};
 use recovery_history::RecoveryConfig;
-use recovery_losses::Ack;
 use recovery_paths::paths::PathData;
 use recovery_queue::items::ItemQueue;
 use recovery_spaces::spaces::PacketSpace;
@@ -113,59 +111,29 @@ impl Stack {
     /// Records a sent packet: the event `Send`, without the match over all events. A 1-RTT packet is recorded inline,
     /// and the compiler knows its space there.
     #[inline(always)]
-    pub fn send(
-        &mut self,
-        space: SpaceId,
-        now: Instant,
-        size: u16,
-        ack_eliciting: bool,
-        largest_acked: Option<u64>,
-        queue: ItemQueue,
-    ) -> EncodedReply
-        ensures { EventReply self.old
-            (Send space now size ack_eliciting largest_acked queue tt) result self.new }
+    pub fn send(&mut self, packet: ItemPacket) -> EncodedReply
+        ensures { EventReply self.old (sends packet) result self.new }
     {
-        match space {
-            SpaceId::Data => self.sent(space, now, size, ack_eliciting, largest_acked, queue),
-            _ => self.sent_apart(space, now, size, ack_eliciting, largest_acked, queue),
+        match packet.space {
+            SpaceId::Data => self.sent(packet),
+            _ => self.sent_apart(packet),
         }
     }
 
     /// Records a sent packet, out of line.
     #[inline(never)]
-    fn sent_apart(
-        &mut self,
-        space: SpaceId,
-        now: Instant,
-        size: u16,
-        ack_eliciting: bool,
-        largest_acked: Option<u64>,
-        queue: ItemQueue,
-    ) -> EncodedReply
-        ensures { EventReply self.old
-            (Send space now size ack_eliciting largest_acked queue tt) result self.new }
+    fn sent_apart(&mut self, packet: ItemPacket) -> EncodedReply
+        ensures { EventReply self.old (sends packet) result self.new }
     {
-        self.sent(space, now, size, ack_eliciting, largest_acked, queue)
+        self.sent(packet)
     }
 
     /// Records a sent packet.
     #[inline(always)]
-    fn sent(
-        &mut self,
-        space: SpaceId,
-        now: Instant,
-        size: u16,
-        ack_eliciting: bool,
-        largest_acked: Option<u64>,
-        queue: ItemQueue,
-    ) -> EncodedReply
-        ensures { EventReply self.old
-            (Send space now size ack_eliciting largest_acked queue tt) result self.new }
+    fn sent(&mut self, packet: ItemPacket) -> EncodedReply
+        ensures { EventReply self.old (sends packet) result self.new }
     {
-        match self
-            .kept
-            .send(space, now, size, ack_eliciting, largest_acked, queue)
-        {
+        match self.kept.send(packet) {
             // The most frequent reply: it is not looked up among all.
             Ok(Answer::Sent { number, forgotten }) => {
                 encode_reply(&Ok(Answer::Sent { number, forgotten }))
@@ -202,18 +170,10 @@ impl Stack {
 
     /// Processes an ACK frame of a sender; an error if there is none.
     #[inline(always)]
-    pub fn take_ack(
-        &mut self,
-        alloc: Global,
-        space: SpaceId,
-        now: Instant,
-        ranges: &[AckRange],
-        ack: Ack,
-        room: AckRoom,
-    ) -> EncodedReply
-        ensures { AsksStack (TakeAck space now ack room) ranges.now self.old result self.new }
+    pub fn take_ack(&mut self, alloc: Global, frame: TakenAck, ranges: &[AckRange]) -> EncodedReply
+        ensures { AsksStack (TakeAck frame) ranges.now self.old result self.new }
     {
-        self.kept.take_ack(alloc, space, now, ranges, ack, room)
+        self.kept.take_ack(alloc, frame, ranges)
     }
 
     /// Takes the contents of a sender's probe; an error if there is no sender.

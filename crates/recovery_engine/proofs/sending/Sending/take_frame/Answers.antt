@@ -19,7 +19,7 @@ returns-in-Err c =
       reply = Err c.in-Err.refused;
       comes = (
         refl,
-        subst (λ (ranges : List (ℕ × ℕ)). AckChecked c.args.space ranges c.args.self.now.sender.recovery.recovery
+        subst (λ (ranges : List (ℕ × ℕ)). AckChecked c.args.frame.space ranges c.args.self.now.sender.recovery.recovery
             (Err c.in-Err.refused) ⊎ (c.in-Err.refused ≡ refused.Event NoMemory)) given c.in-Err.ensures,
       );
       fits = tt;
@@ -43,7 +43,7 @@ returns-then-not-has_room_for c =
     let same = ap packets_of c.here.view_is ∙ ap (λ there. option_map_or packets_of there [])
     (rw c.recovery.ensures at c.in-Some.ensures) in
     let listed : c.list_packets.new.packets.items
-    ≡ packets_listed (packets_in (state_in c.args.self.now.sender) c.args.space) c.in-Ok.newly.numbers.items =
+    ≡ packets_listed (packets_in (state_in c.args.self.now.sender) c.args.frame.space) c.in-Ok.newly.numbers.items =
     rw (same, c.deref-2.ensures.value) at (c.if-not-list_packets.ensures refl) in
     inl (inr (record {
       newly = c.in-Ok.newly;
@@ -65,7 +65,7 @@ returns c =
     let same = ap packets_of c.here.view_is ∙ ap (λ there. option_map_or packets_of there [])
     (rw c.recovery.ensures at c.in-Some.ensures) in
     let listed : c.list_packets.new.packets.items
-    ≡ packets_listed (packets_in (state_in c.args.self.now.sender) c.args.space)
+    ≡ packets_listed (packets_in (state_in c.args.self.now.sender) c.args.frame.space)
     c.on_newly_acked-acked.result.numbers.items =
     rw (same, c.deref-2.ensures.value, ← c.on_newly_acked-acked.ensures.numbers) at (c.if-not-list_packets.ensures
     refl) in
