@@ -8,7 +8,7 @@ use recovery_base::below::NoMemory;
 use recovery_script_syntax::lines::LINE_LIMIT;
 use std::alloc::Global;
 
-/// What may stand after the words of a line that has a list: nothing, one number, two or three.
+/// A line may end in a list. These lists are tried: an empty one, and those of one to three numbers.
 const ENDS: [&str; 4] = ["", " 0", " 0 0", " 0 0 0"];
 
 /// The grammar of the lines that a program reads: each line encodes an item, or none.

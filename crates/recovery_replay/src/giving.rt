@@ -21,7 +21,7 @@ pub struct Lines<'a, G, R, E> {
     pub grammar: G,
     /// The input.
     pub input: &'a mut R,
-    /// Where a line is reported that cannot be read.
+    /// The stream to which a line that cannot be read is reported.
     pub errors: &'a mut E,
     /// How the input ended; `None` if the sink asked for no more.
     pub outcome: Option<Outcome>,

@@ -41,7 +41,7 @@ ranges_read (word ∷ next ∷ words) =
     else (number_of u64_limit word >>= λ first. (number_of u64_limit next >>= λ last.
     (ranges_read words >>= λ rest. Some ((first, last) ∷ rest.0, rest.1))))
 
--- these ranges were read, and these counts after them; or one of the words does not fit
+-- these ranges were read, and these counts after them; or a field is invalid
 abbrev pub AreRangesRead : List (List ℕ) → List (ℕ × ℕ) → Option (Option EcnCounts) → Type 0
 AreRangesRead words ranges (Some ecn) = ranges_read words ≡ Some (ranges, ecn)
 AreRangesRead words ranges None = ranges_read words ≡ None
