@@ -1,5 +1,5 @@
 -- What is in flight by the log exceeds the largest window by probes at most.
-use Rattle.std.proofs.Common.{◌≡◌, ℕ, ◌+◌, ◌≤◌, ◌&&◌, ◌||◌, Bool, true, false, List, [], ◌∷◌, Option, None, Some, Ok, refl, sym, subst, arith}
+use Rattle.std.proofs.Common.{◌≡◌, ℕ, ◌+◌, ◌≤◌, ◌&&◌, ◌||◌, Bool, true, false, [], ◌∷◌, Option, None, Some, Ok, refl, arith}
 use Rattle.std.specs.Prelude.{if◌then◌else◌, is_some, max, not}
 use Rattle.recovery_base.specs.declared.below.SpaceId.{SpaceId}
 use Rattle.recovery_pair.specs.declared.steps.End.{End}
@@ -75,9 +75,6 @@ module _ (end : End) where
 
 most : (a b : ℕ) → a ≤ max a b
 most a b = grind arith
-
-most_of : (a b c : ℕ) → c ≤ b → c ≤ max a b
-most_of a b c less = grind (arith, less)
 
 sent_within : (eliciting : Bool) (size window checked all largest : ℕ) → all + size ≤ window → checked ≤ all
     → (if true then counted_if eliciting size else 0) + checked ≤ max window largest

@@ -1,10 +1,10 @@
--- No deadlock: while bytes are in flight, the timer is set; and the window holds a datagram back only then.
+-- No deadlock: while bytes are in flight, the timer is set; and the window holds a datagram back only then. Both are
+-- never stuck.
 use Rattle.std.proofs.Common.{◌≡◌, ◌≢◌, ℕ, ◌+◌, ◌*◌, ◌<◌, ◌≤◌, ◌==◌, ◌⊎◌, inl, inr, ◌&&◌, ◌||◌, Bool, true, false, List, [], ◌∷◌, Option, None, Some, Result, Ok, Err, nat_lt, refl, sym, ap, subst, ◌∙◌, arith, true≢false}
 use Rattle.std.proofs.lemmas.Bool.{cases_lt}
 use Rattle.std.proofs.lemmas.Option.{none-some}
 use Rattle.std.proofs.lemmas.Bool.Decides.{nat_tests}
 use Rattle.std.specs.Prelude.{not, if◌then◌else◌}
-use Rattle.rand_core.specs.Stream.{Stream}
 use Rattle.recovery_base.specs.declared.below.SpaceId.{SpaceId}
 use Rattle.recovery_base.specs.declared.below.SpaceId.TheVariants.{Data, Handshake, Initial}
 use Rattle.recovery_base.specs.declared.timer.Timer.TheVariants.{LossDetection}
@@ -17,7 +17,6 @@ use Rattle.recovery_events.specs.declared.event.Refusal.{Refusal}
 use Rattle.recovery_paths.specs.PathLog.{PathReplyInputs, PerPath}
 use Rattle.recovery_paths.specs.PathStates.{is_blocked}
 use Rattle.recovery_paths.specs.declared.path_pair.PathName.TheVariants.{Current}
-use Rattle.recovery_history.specs.declared.config.RecoveryConfig.{RecoveryConfig}
 use Rattle.recovery_history.specs.History.{AtEach, Beginning, History, Reply, begins, queue_model}
 use Rattle.recovery_history.specs.Promises.Counted.{sum_on, weight}
 use Rattle.recovery_history.specs.Promises.Datagrams.{is_validated}
@@ -51,25 +50,23 @@ use Rattle.recovery_pair.specs.declared.steps.PairAnswer.TheVariants.{Held}
 use Rattle.recovery_pair.specs.declared.steps.PairStep.{PairStep}
 use Rattle.recovery_pair.specs.declared.steps.PairStep.TheVariants as steps
 use Rattle.recovery_pair.specs.declared.steps.WirePacket.{WirePacket}
+use Rattle.recovery_pair.specs.AddressKnown.{Known, KnowsWithCause, known_at, known_of}
 use Rattle.recovery_pair.specs.Flights.{Numbers, counted_if, flight, no_numbers}
 use Rattle.recovery_pair.specs.Logs.{PairLog, has_validated, was_discarded}
-use Rattle.recovery_pair.specs.NoDeadlock.{AreTimed, HasProbeKeys, HasTimer, HoldsWithCause, IfTied, IsHeldWithCause, IsTimed, MayProbe, NeverStuck, deadlock_space_in}
-use Rattle.recovery_pair.specs.Pasts.{Continues, GoesOnQuietly, flight_in, silent_bytes}
+use Rattle.recovery_pair.specs.NoDeadlock.{AreNeverStuck, AreTimed, FollowsHandshake, HasProbeKeys, HasTimer, HasValidated, HoldsWithCause, IfTied, IsHeldWithCause, IsTimed, MayProbe, NeverStuck, deadlock_space}
+use Rattle.recovery_pair.specs.Pasts.{Continues, GoesOnQuietly, HasPast, flight_in, silent_bytes}
 use Rattle.recovery_pair.specs.Permits.{HoldsAt, PermitsAnswer}
 use Rattle.recovery_pair.specs.Runs.{StepKeeps}
 use Rattle.recovery_pair.specs.Tied.{IsLogged, IsTied, validated_first}
-use Rattle.recovery_pair.specs.Timed.{HasTimerByEvents, HaveTimersByEvents}
+use Rattle.recovery_pair.specs.Timed.{AreTimedAs, IsTimedAs, KeepsTimers}
 use Rattle.recovery_pair.specs.Turns.{TurnsAt}
 use Rattle.recovery_pair.proofs.FlightLaws.{flight_sum, or_left, or_right}
+use Rattle.recovery_pair.proofs.KnownLaws.{cause_kept, client_validated, or_cases}
 
 -- ---- tests
 
 some_of : (a b : ℕ) → 0 < a + b → (0 < a) ⊎ (0 < b)
 some_of a b more = elim (cases_lt 0 a) [ inl is ↦ inl is | inr none ↦ inr (omega (arith, more, none)) ]
-
-or_cases : (a b : Bool) → (a || b) ≡ true → (a ≡ true) ⊎ (b ≡ true)
-or_cases true b is = inl refl
-or_cases false b is = inr is
 
 true_first : (a b : Bool) → a ≡ true → (a || b) ≡ true
 true_first a b is = rw is refl
@@ -311,48 +308,33 @@ module _ (first second : SenderError) where
   said_full false true false true false None is = absurd cc
   said_full false true false true false (Some until) is = absurd cc
 
--- the log and a past agree on what is validated and discarded
-record Agrees {Q S M P : Type 0} (validated : Bool) (log : PairLog) (end : End) (first : Bool)
-    (past : History Q S M P) : Type 0 where
-  pub address : is_validated first Current past ≡ has_validated end (validated_first end validated) log
-  pub discarded : (space : SpaceId) → is_discarded space past ≡ was_discarded end space log
-
-agrees : {Q S M P : Type 0} (validated : Bool) (log : PairLog) (end : End) (first : Bool) (past : History Q S M P)
-    → IsLogged validated log end first past → Agrees validated log end first past
-agrees validated log end first past logged = record { address = logged.address; discarded = logged.discarded }
-
-agrees_after : {Q S M P : Type 0} (validated : Bool) (log : PairLog) (end : End) (first : Bool)
-    (past after : History Q S M P) → GoesOnQuietly past after → Agrees validated log end first past
-    → Agrees validated log end first after
-agrees_after validated log end first past after goes agree = record {
-  address = goes.validated first ∙ agree.address;
-  discarded = λ space. goes.discarded space ∙ agree.discarded space;
-}
-
 module _ {F Q R C K S M P : Type 0} {f : _} {c : _} {q : _} {m : _} {r : _} (sender : Sender F Q R C K S M P f c q m r)
-    (config : RecoveryConfig F) (start : ℕ) (random : Stream) (past : History Q S M P)
-    (came : ReachedBy (begins f.built c.words (queue_model q.contents q.words q.blank) config start random) past
-    (state_in sender)) where
+    (own : HasPast sender) where
   abbrev begun : Beginning F K Q S M P
-  begun = begins f.built c.words (queue_model q.contents q.words q.blank) config start random
+  begun = begins f.built c.words (queue_model q.contents q.words q.blank) own.config own.start own.random
 
-  outstanding_by : 0 < flight_in no_numbers past → (space : SpaceId) × IsOutstanding past space
+  outstanding_by : 0 < flight_in no_numbers own.past → (space : SpaceId) × IsOutstanding own.past space
   outstanding_by more =
-      let one = flying_by begun (generations past).current no_numbers past came.replies more in (
+      let one = flying_by begun (generations own.past).current no_numbers own.past own.came.replies more in (
         one.space,
-        (lives_by begun past came.replies one.space one.number one.tracked, one.number, one.tracked, one.elicits),
+        (
+          lives_by begun own.past own.came.replies one.space one.number one.tracked,
+          one.number,
+          one.tracked,
+          one.elicits,
+        ),
       )
 
   -- while a packet is in flight
-  timed_by : IsTimerByEvents begun past (state_in sender) sender.variables → may_send begun past ≡ true
+  timed_by : IsTimerByEvents begun own.past (state_in sender) sender.variables → may_send begun own.past ≡ true
       → (sender.variables.is_handshake_confirmed ≡ true)
-      ⊎ (is_discarded (deadlock_space_by past sender.variables) past ≡ false)
-      → (space : SpaceId) → IsOutstanding past space → HasTimer sender
+      ⊎ (is_discarded (deadlock_space_by own.past sender.variables) own.past ≡ false)
+      → (space : SpaceId) → IsOutstanding own.past space → HasTimer sender
   timed_by timer may keys space outstanding none =
       by (same_space space Data) sender.variables.is_handshake_confirmed refl refl
     where
-      stopped : timer_value past LossDetection ≡ None
-      stopped = sym (came.state_after.timers LossDetection) ∙ none
+      stopped : timer_value own.past LossDetection ≡ None
+      stopped = sym (own.came.state_after.timers LossDetection) ∙ none
 
       never : (same_space space Data && not sender.variables.is_handshake_confirmed) ≡ false → ⊥
       never goes = let set = timer.runs may space goes outstanding in
@@ -365,68 +347,68 @@ module _ {F Q R C K S M P : Type 0} {f : _} {c : _} {q : _} {m : _} {r : _} (sen
       by true false one two = elim keys [
         | inl confirmed ↦ true≢false (sym confirmed ∙ two)
         | inr kept ↦ timer.deadlock may kept
-            (inr (two, subst (λ (at : SpaceId). IsOutstanding past at) (one_space space Data one) outstanding)) stopped
+            (inr (two, subst (λ (at : SpaceId). IsOutstanding own.past at) (one_space space Data one) outstanding))
+            stopped
       ]
 
+  -- the window holds a datagram back only if something is in flight
+  full_in_flight : (now size : ℕ) (space : SpaceId) (in_flight : Bool)
+      → transmit_reply c.words (state_in sender) sender.variables now size space in_flight ≡ Ok Full
+      → size ≤ window_of c.words (state_in sender) → silent_bytes own.past ≤ 0 → 0 < flight_in no_numbers own.past
+  full_in_flight now size space in_flight said fits silent =
+      let full : is_full c.words (state_in sender) size ≡ true = said_full _ _ _ _ _
+      (is_checked sender.variables space in_flight) (is_full c.words (state_in sender) size)
+      _ said in
+      let most = flight_all begun own.past (state_in sender) own.came silent in
+      room (window_of c.words (state_in sender)) (bytes_in_flight (state_in sender)) size _ full fits most
+    where
+      room : (window bytes size flying : ℕ) → nat_lt window (bytes + size) ≡ true → size ≤ window → bytes ≤ flying
+          → 0 < flying
+      room window bytes size flying more fits most = grind (arith, nat_tests, more, fits, most)
+
   module _ (validated : Bool) (log : PairLog) (end : End)
-      (agree : Agrees validated log end config.validated past) where
-    address_by : MayProbe validated log end sender → is_validated config.validated Current past ≡ true
-    address_by may = agree.address ∙ may.address
-
-    kept_by : HasProbeKeys log end sender
-        → is_discarded (deadlock_space_by past sender.variables) past ≡ false
-    kept_by kept = subst (λ (gone : Bool). is_discarded
-        (if sender.variables.has_handshake_keys && not gone then Handshake else Initial) past ≡ false)
-        (sym (agree.discarded Handshake)) (agree.discarded (deadlock_space_in log end sender) ∙ kept)
-
-    keys_by : MayProbe validated log end sender → (sender.variables.is_handshake_confirmed ≡ true)
-        ⊎ (is_discarded (deadlock_space_by past sender.variables) past ≡ false)
-    keys_by may = elim may.keys [
-      | inl confirmed ↦ inl confirmed
-      | inr kept ↦ inr (kept_by kept)
-    ]
-
-    timed_if : IsTimerByEvents begun past (state_in sender) sender.variables → MayProbe validated log end sender
-        → 0 < flight_in no_numbers past → HasTimer sender
-    timed_if timer may more =
-        let one = outstanding_by more in
-        timed_by timer (true_first _ _ (address_by may)) (keys_by may) one.0 one.1
-
-    -- ---- a datagram that is held back
-
-    free : is_validated config.validated Current past ≡ true → (bytes : ℕ)
+      (address : is_validated own.config.validated Current own.past
+      ≡ has_validated end (validated_first end validated) log) where
+    -- nor does the amplification limit, once the address is validated
+    free : is_validated own.config.validated Current own.past ≡ true → (bytes : ℕ)
         → is_blocked (state_in sender).paths.current.state bytes ≡ false
     free is bytes =
-        let flows = kept_after (RepliesAfter begun) (FlowsAgree begun) (flows_after begun) (flows_at_first begun) past
-        came.replies in
-        let kept : Flow = flow_of (pasts_of begun past).current in
+        let flows = kept_after (RepliesAfter begun) (FlowsAgree begun) (flows_after begun) (flows_at_first begun)
+        own.past own.came.replies in
+        let kept : Flow = flow_of (pasts_of begun own.past).current in
         let flags = ap (λ (f : Flow). f.validated) flows.0.0 in
-        ap (λ (paths : PerPath (PathReplyInputs K)). is_blocked paths.current.state bytes) came.state_after.paths
+        ap (λ (paths : PerPath (PathReplyInputs K)). is_blocked paths.current.state bytes) own.came.state_after.paths
         ∙ free_of kept.validated kept.came kept.went bytes (sym flags ∙ is)
 
-    -- not by the amplification limit
     not_blocked : (now size : ℕ) (space : SpaceId) (in_flight : Bool)
         → transmit_reply c.words (state_in sender) sender.variables now size space in_flight ≡ Ok Blocked
-        → MayProbe validated log end sender → ⊥
-    not_blocked now size space in_flight said may = true≢false
+        → HasValidated validated log end → ⊥
+    not_blocked now size space in_flight said is = true≢false
         (sym (said_blocked _ _ _ _ _ (is_checked sender.variables space in_flight)
         (is_full c.words (state_in sender) size)
-        _ said) ∙ free (address_by may) size)
+        _ said) ∙ free (address ∙ is) size)
 
-    -- and by the window only if something is in flight
-    full_in_flight : (now size : ℕ) (space : SpaceId) (in_flight : Bool)
-        → transmit_reply c.words (state_in sender) sender.variables now size space in_flight ≡ Ok Full
-        → size ≤ window_of c.words (state_in sender) → silent_bytes past ≤ 0 → 0 < flight_in no_numbers past
-    full_in_flight now size space in_flight said fits silent =
-        let full : is_full c.words (state_in sender) size ≡ true = said_full _ _ _ _ _
-        (is_checked sender.variables space in_flight) (is_full c.words (state_in sender) size)
-        _ said in
-        let most = flight_all begun past (state_in sender) came silent in
-        room (window_of c.words (state_in sender)) (bytes_in_flight (state_in sender)) size _ full fits most
-      where
-        room : (window bytes size flying : ℕ) → nat_lt window (bytes + size) ≡ true → size ≤ window → bytes ≤ flying
-            → 0 < flying
-        room window bytes size flying more fits most = grind (arith, nat_tests, more, fits, most)
+    module _ (discarded : (space : SpaceId) → is_discarded space own.past ≡ was_discarded end space log)
+        (knows : known_of sender.variables ≡ known_at end log) where
+      same_deadlock_space : deadlock_space_by own.past sender.variables ≡ deadlock_space log end
+      same_deadlock_space =
+          ap (λ (known : Known). if known.keys && not (is_discarded Handshake own.past) then Handshake else Initial)
+          knows
+          ∙ ap (λ (gone : Bool). if (known_at end log).keys && not gone then Handshake else Initial)
+          (discarded Handshake)
+
+      kept_by : HasProbeKeys log end → is_discarded (deadlock_space_by own.past sender.variables) own.past ≡ false
+      kept_by kept = ap (λ (space : SpaceId). is_discarded space own.past) same_deadlock_space
+          ∙ discarded (deadlock_space log end) ∙ kept
+
+      timed_if : IsTimerByEvents begun own.past (state_in sender) sender.variables → MayProbe validated log end
+          → 0 < flight_in no_numbers own.past → HasTimer sender
+      timed_if timer may more =
+          let one = outstanding_by more in
+          timed_by timer (true_first _ _ (address ∙ may.address)) (elim may.keys [
+            | inl confirmed ↦ inl (ap (λ (known : Known). known.confirmed) knows ∙ confirmed)
+            | inr kept ↦ inr (kept_by kept)
+          ]) one.0 one.1
 
 -- ---- both endpoints
 
@@ -436,57 +418,82 @@ still_flying_after : {Q S M P : Type 0} (past after : History Q S M P) → GoesO
 still_flying_after past after goes = let more = goes.flight no_numbers in omega (arith, more)
 
 module _ {F Q R C K S M P : Type 0} {f : _} {c : _} {q : _} {m : _} {r : _} where
-  held_with_cause : (validated : Bool) (log : PairLog) (end : End) (space : SpaceId) (now size : ℕ)
-      (held : Transmission) (old new : Sender F Q R C K S M P f c q m r) (config : RecoveryConfig F) (start : ℕ)
-      (random : Stream) (past : History Q S M P)
-      → ReachedBy (begins f.built c.words (queue_model q.contents q.words q.blank) config start random) past
-      (state_in old) → IsLogged validated log end config.validated past → Continues GoesOnQuietly old new
-      → HasTimerByEvents new → PermitsAnswer space now size (Ok (Held held)) old
-      → IsHeldWithCause validated log end size held old new
-  held_with_cause validated log end space now size Blocked old new config start random past came logged goes timer
-      permits = λ may.
-      not_blocked old config start random past came validated log end
-      (agrees validated log end config.validated past logged) now size space permits.0 permits.1.0 may
-  held_with_cause validated log end space now size Full old new config start random past came logged goes timer
-      permits = λ may fits.
-      let on = goes.from config start random past came in
-      let agree = agrees validated log end config.validated past logged in
-      let some = full_in_flight old config start random past came validated log end agree now size space permits.0
-      permits.1.0 fits logged.silent in
-      let least = still_flying_after past on.0 on.2 in
-      timed_if new config start random on.0 on.1 validated log end
-      (agrees_after validated log end config.validated past on.0 on.2 agree) (timer config start random on.0 on.1) may
-      (omega (arith, some, least))
-  held_with_cause validated log end space now size held old new config start random past came logged goes timer
-      permits = tt
+  module _ (validated : Bool) (log : PairLog) (end : End) (old new : Sender F Q R C K S M P f c q m r)
+      (own : HasPast old) (logged : IsLogged validated log end own.config.validated own.past)
+      (goes : Continues GoesOnQuietly old new) (timed : IsTimedAs (known_at end log) new) (space : SpaceId)
+      (now size : ℕ) where
+    held_with_cause : (held : Transmission) → PermitsAnswer space now size (Ok (Held held)) old
+        → IsHeldWithCause validated log end size held old new
+    held_with_cause Blocked permits =
+        not_blocked old own validated log end logged.address now size space permits.0 permits.1.0
+    held_with_cause Full permits = λ may fits.
+        let on = goes.from own.config own.start own.random own.past own.came in
+        let some = full_in_flight old own now size space permits.0 permits.1.0 fits logged.silent in
+        let least = still_flying_after own.past on.0 on.2 in
+        timed_if new (record {
+          config = own.config;
+          start = own.start;
+          random = own.random;
+          past = on.0;
+          came = on.1;
+        }) validated log end (on.2.validated own.config.validated ∙ logged.address)
+        (λ there. on.2.discarded there ∙ logged.discarded there) timed.1
+        (timed.0 own.config own.start own.random on.0 on.1) may (omega (arith, some, least))
+    held_with_cause held permits = tt
 
   timed_logged : (validated : Bool) (log : PairLog) (end : End) (sender : Sender F Q R C K S M P f c q m r)
-      (config : RecoveryConfig F) (start : ℕ) (random : Stream) (past : History Q S M P)
-      → ReachedBy (begins f.built c.words (queue_model q.contents q.words q.blank) config start random) past
-      (state_in sender) → IsLogged validated log end config.validated past → HasTimerByEvents sender
-      → IsTimed validated log end sender
-  timed_logged validated log end sender config start random past came logged timer =
-      let agree = agrees validated log end config.validated past logged in
-      let events = timer config start random past came in record {
-        in_flight = λ may more. timed_if sender config start random past came validated log end agree events may
+      (own : HasPast sender) → IsLogged validated log end own.config.validated own.past
+      → IsTimedAs (known_at end log) sender → IsTimed validated log end sender
+  timed_logged validated log end sender own logged timed =
+      let events = timed.0 own.config own.start own.random own.past own.came in record {
+        in_flight = λ may more. timed_if sender own validated log end logged.address logged.discarded timed.1 events may
             (let least = logged.flight no_numbers in omega (arith, more, least));
         unknown = λ address keys unknown none. events.deadlock (true_first _ _ (logged.address ∙ address))
-            (kept_by sender config start random past came validated log end agree keys) (inl unknown)
-            (sym (came.state_after.timers LossDetection) ∙ none);
+            (kept_by sender own validated log end logged.address logged.discarded timed.1 keys)
+            (inl (ap (λ (known : Known). known.address) timed.1 ∙ unknown))
+            (sym (own.came.state_after.timers LossDetection) ∙ none);
       }
+
+  -- both endpoints
+  module _ (validated : Bool) (log : PairLog) (client server : Sender F Q R C K S M P f c q m r)
+      (cause : KnowsWithCause log) (timed : AreTimed validated log client server) where
+    limited : FollowsHandshake validated log → (HasValidated validated log Server → ⊥) → HasTimer client
+    limited follows never = by (known_at Client log).address refl
+      where
+        by : (address : Bool) → (known_at Client log).address ≡ address → HasTimer client
+        by true knows = absurd (elim (cause knows) [
+          | inl confirmed ↦ never (follows.confirms confirmed)
+          | inr received ↦ never (follows.validates received)
+        ])
+        by false knows = timed.0.unknown (client_validated log) (elim (follows.keys Client) [
+          | inl confirmed ↦ absurd (never (follows.confirms confirmed))
+          | inr kept ↦ kept
+        ]) knows
+
+    flying : FollowsHandshake validated log → (end : End) → 0 < flight end log
+        → HasTimer client ⊎ HasValidated validated log Server × HasTimer server
+    flying follows Client more =
+        inl (timed.0.in_flight (record { address = client_validated log; keys = follows.keys Client }) more)
+    flying follows Server more = by (has_validated Server validated log) refl
+      where
+        by : (is : Bool) → has_validated Server validated log ≡ is
+            → HasTimer client ⊎ HasValidated validated log Server × HasTimer server
+        by true is = inr (is, timed.1.in_flight (record { address = is; keys = follows.keys Server }) more)
+        by false is = inl (limited follows (λ yes. true≢false (sym yes ∙ is)))
+
+    pub never_both : AreNeverStuck validated log client server
+    never_both = (cause, λ follows. record { unvalidated = limited follows; in_flight = flying follows })
 
 module _ {F Q R C K S M : Type 0} {f : _} {c : _} {q : _} {m : _} {r : _}
     (client server : Sender F Q R C K S M (List ℕ) f c q m r) (wire : List WirePacket)
     (client_waits server_waits : List Waiting) where
   -- while bytes are in flight, by the log
   pub timed_at_both : (validated : Bool) (log : PairLog)
-      → IsTied validated log client server wire client_waits server_waits → HaveTimersByEvents client server
-      → AreTimed validated log client server
+      → IsTied validated log client server wire client_waits server_waits
+      → AreTimedAs (λ end. known_at end log) client server → AreTimed validated log client server
   timed_at_both validated log tied have = (
-    timed_logged validated log Client client tied.ends.own.config tied.ends.own.start tied.ends.own.random
-        tied.ends.own.past tied.ends.own.came tied.ends.logged have.0,
-    timed_logged validated log Server server tied.ends.peer.config tied.ends.peer.start tied.ends.peer.random
-        tied.ends.peer.past tied.ends.peer.came tied.ends.peer_logged have.1,
+    timed_logged validated log Client client tied.ends.own tied.ends.logged have.0,
+    timed_logged validated log Server server tied.ends.peer tied.ends.peer_logged have.1,
   )
 
   -- a datagram that is held back
@@ -494,17 +501,15 @@ module _ {F Q R C K S M : Type 0} {f : _} {c : _} {q : _} {m : _} {r : _}
       (client_after server_after : Sender F Q R C K S M (List ℕ) f c q m r)
       → TurnsAt end (λ (old new : Sender F Q R C K S M (List ℕ) f c q m r). Continues GoesOnQuietly old new) client
       server client_after server_after → HoldsAt end (PermitsAnswer space now size (Ok (Held held))) client server
-      → (HaveTimersByEvents client server → HaveTimersByEvents client_after server_after)
+      → ((known : End → Known) → AreTimedAs known client server → AreTimedAs known client_after server_after)
       → IfTied client server wire client_waits server_waits (λ validated log. HoldsWithCause client server
       client_after server_after validated log (steps.Send end space now size, Ok (Held held)))
   held_at Client space now size held client_after server_after turn permits timers validated log tied have =
-      held_with_cause validated log Client space now size held client client_after tied.ends.own.config
-      tied.ends.own.start tied.ends.own.random tied.ends.own.past tied.ends.own.came tied.ends.logged turn.0
-      (timers have).0 permits
+      held_with_cause validated log Client client client_after tied.ends.own tied.ends.logged turn.0
+      (timers (λ end. known_at end log) have).0 space now size held permits
   held_at Server space now size held client_after server_after turn permits timers validated log tied have =
-      held_with_cause validated log Server space now size held server server_after tied.ends.peer.config
-      tied.ends.peer.start tied.ends.peer.random tied.ends.peer.past tied.ends.peer.came tied.ends.peer_logged turn.0
-      (timers have).1 permits
+      held_with_cause validated log Server server server_after tied.ends.peer tied.ends.peer_logged turn.0
+      (timers (λ end. known_at end log) have).1 space now size held permits
 
 module _ {F Q R C K S M : Type 0} {f : _} {c : _} {q : _} {m : _} {r : _}
     (client server : Sender F Q R C K S M (List ℕ) f c q m r) (wire : List WirePacket)
@@ -515,13 +520,20 @@ module _ {F Q R C K S M : Type 0} {f : _} {c : _} {q : _} {m : _} {r : _}
       (client_waits_after server_waits_after : List Waiting)
       → StepKeeps client server wire client_waits server_waits step answer client_after server_after wire_after
       client_waits_after server_waits_after
-      → (HaveTimersByEvents client server → HaveTimersByEvents client_after server_after)
+      → KeepsTimers (step, answer) client server client_after server_after
       → IfTied client server wire client_waits server_waits (λ validated log. HoldsWithCause client server
       client_after server_after validated log (step, answer))
       → NeverStuck client server wire client_waits server_waits step answer client_after server_after
-  never_stuck step answer client_after server_after wire_after client_waits_after server_waits_after keeps timers held
-      validated log tied have = (
-        timed_at_both client_after server_after wire_after client_waits_after server_waits_after validated
-            ((step, answer) ∷ log) (keeps validated log tied).1 (timers have),
-        held validated log tied have,
-      )
+  never_stuck step answer client_after server_after wire_after client_waits_after server_waits_after keeps timers held =
+      record {
+        timed = timed;
+        held = held;
+        both = λ validated log tied have cause. never_both validated ((step, answer) ∷ log) client_after server_after
+            (cause_kept log (step, answer) (keeps validated log tied).0.0.delivered cause)
+            (timed validated log tied have);
+      }
+    where
+      timed : IfTied client server wire client_waits server_waits (λ validated log.
+          AreTimed validated ((step, answer) ∷ log) client_after server_after)
+      timed validated log tied have = timed_at_both _ _ _ _ _ validated ((step, answer) ∷ log)
+          (keeps validated log tied).1 (timers (λ end. known_at end log) have)

@@ -67,9 +67,6 @@ apart_last above (first ∷ ranges) range fine whole apart =
 
 -- ---- the frame of a set of ranges
 
-abbrev last_of : Range ℕ → ℕ × ℕ
-last_of range = (range.start, range.end - 1)
-
 abbrev pub frame_of : List (Range ℕ) → List (ℕ × ℕ)
 frame_of [] = []
 frame_of (range ∷ ranges) = frame_of ranges ++ (range.start, range.end - 1) ∷ []

@@ -1,8 +1,8 @@
 -- An event continues a past.
-use Rattle.std.proofs.Common.{◌≡◌, ℕ, ◌+◌, ◌<◌, ◌≤◌, ◌⊎◌, inl, inr, ◌&&◌, ◌||◌, ◌==◌, nat_eq, nat_lt, nat_le, Bool, true, false, List, [], ◌∷◌, Option, None, Some, Result, Ok, Err, IsSomeAnd, refl, sym, ap, subst, ◌∙◌, arith, true≢false}
+use Rattle.std.proofs.Common.{◌≡◌, ℕ, ◌+◌, ◌<◌, ◌≤◌, ◌⊎◌, inl, inr, ◌&&◌, ◌||◌, ◌==◌, nat_eq, nat_lt, nat_le, Bool, true, false, List, [], ◌∷◌, ◌++◌, append_assoc, Option, None, Some, Result, Ok, Err, IsSomeAnd, refl, sym, ap, subst, ◌∙◌, arith, true≢false}
 use Rattle.std.specs.Prelude.{if◌then◌else◌, sum_by}
 use Rattle.std.proofs.lemmas.Bool.{cases_lt}
-use Rattle.std.specs.List.{list_all}
+use Rattle.std.specs.List.{AllByRecursion, list_all}
 use Rattle.std.specs.Set.{is_member}
 use Rattle.std.proofs.lemmas.Bool.Decides.{nat_tests}
 use Rattle.std.proofs.lemmas.List.Sums.{sum_by-cons}
@@ -12,7 +12,7 @@ use Rattle.recovery_base.specs.Units.{number_limit}
 use Rattle.recovery_events.specs.declared.event.Answer.{Answer}
 use Rattle.recovery_events.specs.declared.event.Answer.TheVariants.{Delayed, Duplicate, New, Sent, Transmitted}
 use Rattle.recovery_events.specs.declared.event.Event.{Event}
-use Rattle.recovery_events.specs.declared.event.Event.TheVariants.{Acked, DatagramIn, DiscardSpace, DropPrevious, Lost, NewPath, PollMtu, Received, RevertPath, Send, Transmit, Validated}
+use Rattle.recovery_events.specs.declared.event.Event.TheVariants.{Acked, Congestion, DatagramIn, DiscardSpace, DropPrevious, Lost, NewPath, PollMtu, Received, ResetPath, RevertPath, Send, Transmit, Validated}
 use Rattle.recovery_events.specs.declared.event.Refusal.{Refusal}
 use Rattle.recovery_events.specs.declared.event.Refusal.TheVariants.{NoMemory, NumberTooLarge, SpaceDiscarded}
 use Rattle.recovery_paths.specs.declared.path_pair.PathName.TheVariants.{Current}
@@ -29,6 +29,7 @@ use Rattle.recovery_history.proofs.TrackedLaws.{one_space}
 use Rattle.recovery_sender.specs.Promises.Lost.{elicits_by, sent_at}
 use Rattle.recovery_sender.specs.declared.sender.SenderError.{SenderError}
 use Rattle.recovery_sender.specs.declared.sender.SenderError.TheVariants as refused
+use Rattle.recovery_pair.specs.Congested.{Congestions, IsCongestedBy}
 use Rattle.recovery_pair.specs.Flights.{Numbers, counted_if, no_numbers}
 use Rattle.recovery_pair.specs.Pasts.{AcksBelow, Came, EndTurn, Endings, GoesOn, GoesOnQuietly, HearsNumber, IsHeardBy, KeepsLargest, SendsNumber, WasSentUnder, added, arriving, bytes_received, bytes_transmitted, discarding, ending, flight_in, hearing, is_of, largest_came, leaving, no_endings, packet_leaving, quiet, silent_bytes, validating, with_carried, with_eliciting, with_largest, with_number, with_time}
 use Rattle.recovery_pair.proofs.FlightLaws.{flight_event, flight_less, gone_again, or_gone, sent_leaves, zero_more}
@@ -42,10 +43,11 @@ IsQuietEvent (Transmit now bytes checked) = ⊥
 IsQuietEvent (DiscardSpace space) = ⊥
 IsQuietEvent (Validated path) = ⊥
 IsQuietEvent (NewPath now remote is_fresh) = ⊥
+IsQuietEvent (ResetPath now) = ⊥
 IsQuietEvent RevertPath = ⊥
 IsQuietEvent event = Unit {0}
 
--- and no packet is sent; no other packets than these are acknowledged or lost
+-- and no packet is sent; no other packets than these are acknowledged or lost, and no other congestion is found
 abbrev pub IsEndingEvent : {Q S M P : Type 0} → Endings → Event Q S M P → Reply Q → Type 0
 IsEndingEvent ends (Acked space now number limited) reply =
     (ends.gone space number ≡ true) × (ends.acked space number ≡ true)
@@ -54,6 +56,7 @@ IsEndingEvent ends (Lost space number) (Err refusal) = Unit {0}
 IsEndingEvent ends (Send space now size eliciting largest queue frames) (Ok answer) = ⊥
 IsEndingEvent ends (Send space now size eliciting largest queue frames) (Err refusal) = Unit {0}
 IsEndingEvent ends (PollMtu now) reply = ⊥
+IsEndingEvent ends (Congestion found sent persistent bytes) reply = ends.congests found sent ≡ true
 IsEndingEvent ends event reply = IsQuietEvent event
 
 pub ending_quiet : {Q S M P : Type 0} (ends : Endings) (event : Event Q S M P) (reply : Reply Q)
@@ -62,6 +65,7 @@ ending_quiet ends (Acked space now number limited) reply is = tt
 ending_quiet ends (Lost space number) reply is = tt
 ending_quiet ends (Send space now size eliciting largest queue frames) reply is = tt
 ending_quiet ends (PollMtu now) reply is = tt
+ending_quiet ends (Congestion found sent persistent bytes) reply is = tt
 ending_quiet ends event reply is = is
 
 -- what a number ends by
@@ -205,6 +209,14 @@ module _ {Q S M P : Type 0} (past : History Q S M P) where
   silent_before ends (Send there now size eliciting largest queue frames) (Err refusal) is = refl
   silent_before ends event reply is = refl
 
+  congested_before : (ends : Endings) (event : Event Q S M P) (reply : Reply Q) → IsEndingEvent ends event reply
+      → IsCongestedBy ends.congests event
+  congested_before ends (Congestion found sent persistent bytes) reply is = is
+  congested_before ends (NewPath now remote is_fresh) reply is = absurd is
+  congested_before ends (ResetPath now) reply is = absurd is
+  congested_before ends RevertPath reply is = absurd is
+  congested_before ends event reply is = tt
+
   -- a received number came before, or is this one
   received_here : (space : SpaceId) (n : ℕ) (there : SpaceId) (now m : ℕ) (eliciting arm : Bool)
       → WasReceived space n ((Received there now m eliciting, Ok (New arm)) ∷ past)
@@ -253,10 +265,10 @@ module _ {Q S M P : Type 0} where
       → paths_made after ≡ paths_made past
       → ((space : SpaceId) → AcksBelow turn.acks space past after → KeepsLargest space past
       → KeepsLargest space after)
-      → silent_bytes after ≡ silent_bytes past
+      → silent_bytes after ≡ silent_bytes past → IsCongestedBy turn.congests event
       → GoesOn turn past after)
   event_on turn past event reply came heard arrived left discarded validated largest flight carried timed elicited paths
-      topped silent =
+      topped silent congested =
       record {
         given = λ space n. given_on past space n event reply;
         came = came;
@@ -273,6 +285,7 @@ module _ {Q S M P : Type 0} where
         paths = paths;
         topped = topped;
         silent = at_most _ _ silent;
+        congested = ((event, reply) ∷ [], refl, (congested, tt));
       }
 
   pub ending_none : (ends : Endings) (past : History Q S M P) → GoesOn (ending ends) past past
@@ -293,6 +306,7 @@ module _ {Q S M P : Type 0} where
     paths = refl;
     topped = λ space below keeps. keeps;
     silent = at_most (silent_bytes past) (silent_bytes past) refl;
+    congested = ([], refl, tt);
   }
 
   pub quiet_none : (past : History Q S M P) → GoesOnQuietly past past
@@ -317,10 +331,31 @@ module _ {Q S M P : Type 0} where
       (carried_before past ends event reply is) (time_before past ends event reply is)
       (elicits_before past ends event reply is) (paths_before past event reply calm)
       (top_before past ends event reply is) (silent_before past ends event reply is)
+      (congested_before past ends event reply is)
 
 -- ---- one turn after another
 
--- two turns, one after the other, come to a third one: in bytes, and in the packets that end
+-- what reports no other congestion than some reports none but more
+congested_event : {Q S M P : Type 0} (some more : Congestions)
+    → ((found sent : ℕ) → some found sent ≡ true → more found sent ≡ true) → (event : Event Q S M P)
+    → IsCongestedBy some event → IsCongestedBy more event
+congested_event some more each (Congestion found sent persistent bytes) is = each found sent is
+congested_event some more each (NewPath now remote is_fresh) is = absurd is
+congested_event some more each (ResetPath now) is = absurd is
+congested_event some more each RevertPath is = absurd is
+congested_event some more each event is = tt
+
+pub all_map : {T : Type 0} (P Q : T → Type 0) → ((one : T) → P one → Q one) → (all : List T) → AllByRecursion P all
+    → AllByRecursion Q all
+all_map P Q to [] each = tt
+all_map P Q to (one ∷ all) each = (to one each.0, all_map P Q to all each.1)
+
+all_append : {T : Type 0} (Holds : T → Type 0) (one two : List T) → AllByRecursion Holds one
+    → AllByRecursion Holds two → AllByRecursion Holds (one ++ two)
+all_append Holds [] two first second = second
+all_append Holds (it ∷ one) two first second = (first.0, all_append Holds one two first.1 second)
+
+-- two turns, one after the other, come to a third one: in bytes, in the packets that end, and in congestion
 pub record Amounts (one two turn : EndTurn) : Type 0 where
   pub arrives : two.arrives + one.arrives ≤ turn.arrives
   pub leaves : turn.leaves ≤ two.leaves + one.leaves
@@ -330,6 +365,8 @@ pub record Amounts (one two turn : EndTurn) : Type 0 where
       → (turn.acks space n ≡ true) × (two.heard ≡ None)
   pub second : (space : SpaceId) (n : ℕ) → two.acks space n ≡ true
       → (turn.acks space n ≡ true) × (one.carries ≡ None)
+  pub congests : (found sent : ℕ) → (one.congests found sent ≡ true → turn.congests found sent ≡ true)
+      × (two.congests found sent ≡ true → turn.congests found sent ≡ true)
 
 -- and in all else
 pub record Follows (one two turn : EndTurn) : Type 0 where
@@ -430,6 +467,17 @@ module _ {Q S M P : Type 0} (one two turn : EndTurn) (past between after : Histo
     topped = λ space below keeps. second.topped space (below_second space below)
         (first.topped space (below_first space below) keeps);
     silent = (let a = first.silent in let b = second.silent in omega (arith, a, b));
+    congested = (
+        let a = first.congested in
+        let b = second.congested in (
+          b.0 ++ a.0,
+          b.1 ∙ ap (λ (all : History Q S M P). b.0 ++ all) a.1 ∙ sym (append_assoc b.0 a.0 past),
+          all_append (λ happened. IsCongestedBy turn.congests happened.0) b.0 a.0
+              (all_map _ _ (λ happened. congested_event two.congests turn.congests (λ found sent.
+              (amounts.congests found sent).1) happened.0) b.0 b.2)
+              (all_map _ _ (λ happened. congested_event one.congests turn.congests (λ found sent.
+              (amounts.congests found sent).0) happened.0) a.0 a.2),
+        ));
   }
 
 -- what does not elicit does not count
@@ -441,7 +489,7 @@ no_silent false size before same = omega (arith, same)
 -- a turn with other bytes, and by which other packets end
 abbrev amounting : EndTurn → ℕ → ℕ → Endings → EndTurn
 amounting turn arrives leaves ends =
-    record turn { arrives = arrives; leaves = leaves; ends = ends.gone; acks = ends.acked }
+    record turn { arrives = arrives; leaves = leaves; ends = ends.gone; acks = ends.acked; congests = ends.congests }
 
 none_first : (a : ℕ) → a ≤ 0 + a
 none_first a = omega arith
@@ -510,7 +558,7 @@ module _ {Q S M P : Type 0} (arrives leaves : ℕ) (ends : Endings) (turn : EndT
       heard space n (inr never) = absurd cc
 
 abbrev endings_of : EndTurn → Endings
-endings_of turn = record { gone = turn.ends; acked = turn.acks }
+endings_of turn = record { gone = turn.ends; acked = turn.acks; congests = turn.congests }
 
 module _ {Q S M P : Type 0} where
   module _ (turn : EndTurn) (past between after : History Q S M P) where
@@ -521,6 +569,7 @@ module _ {Q S M P : Type 0} where
       ended = λ space n gone is. is;
       first = λ space n acked. no_acks acked;
       second = λ space n acked. (acked, refl);
+      congests = λ found sent. (no_acks, λ is. is);
     })
 
     pub then_quiet : GoesOn turn past between → GoesOnQuietly between after → GoesOn turn past after
@@ -530,6 +579,7 @@ module _ {Q S M P : Type 0} where
       ended = λ space n gone is. is;
       first = λ space n acked. (acked, refl);
       second = λ space n acked. no_acks acked;
+      congests = λ found sent. (λ is. is, no_acks);
     }) (λ gone. none_first (added turn.counts gone))
 
   -- what ends quietly ends within any numbers
@@ -541,6 +591,7 @@ module _ {Q S M P : Type 0} where
     ended = λ space n gone is. or_gone (ends.gone space n) gone is;
     first = λ space n acked. no_acks acked;
     second = λ space n acked. no_acks acked;
+    congests = λ found sent. (no_acks, no_acks);
   }) (quiet_none past)
 
   -- what is transmitted may be left out
@@ -552,6 +603,7 @@ module _ {Q S M P : Type 0} where
     ended = λ space n gone is. is;
     first = λ space n acked. no_acks acked;
     second = λ space n acked. no_acks acked;
+    congests = λ found sent. (no_acks, no_acks);
   }) (quiet_none past)
 
   -- these end first, then nothing else does
@@ -563,6 +615,7 @@ module _ {Q S M P : Type 0} where
     ended = λ space n gone is. gone_again (ends.gone space n) gone is;
     first = λ space n acked. (acked, refl);
     second = λ space n acked. (acked, refl);
+    congests = λ found sent. (λ is. is, λ is. is);
   })
 
   -- ---- a packet is sent
@@ -587,7 +640,7 @@ module _ {Q S M P : Type 0} where
             (λ there m leave. inr (sent_leaves past space now size eliciting largest queue frames n forgotten once
             forgets there m leave)))
             (λ there m. refl) (λ there m. refl) (λ there m. refl) refl
-            (λ there below keeps. keeps) (no_silent eliciting size (silent_bytes past) counted);
+            (λ there below keeps. keeps) (no_silent eliciting size (silent_bytes past) counted) tt;
         unused = λ some. (let none = (increase space n goes).1 n (omega arith) in absurd (omega (arith, none, some)));
         above = λ k some. (elim (cases_lt k n) [
           | inl below ↦ below
@@ -636,6 +689,7 @@ module _ {Q S M P : Type 0} where
               ended = λ there m gone is. is;
               first = λ there m acked. no_acks acked;
               second = λ there m acked. no_acks acked;
+              congests = λ found sent. (no_acks, no_acks);
             }) first second.goes;
         unused = λ some. second.unused (first.given space n some);
         above = λ k some. second.above k (first.given space k some);
@@ -664,6 +718,7 @@ module _ {Q S M P : Type 0} where
         ended = λ there m gone is. is;
         first = λ there m acked. no_acks acked;
         second = λ there m acked. (acked, refl);
+        congests = λ found sent. (no_acks, λ is. is);
       }) (λ gone. none_first 0) first.goes second;
       by = first.by;
     }
@@ -678,6 +733,7 @@ module _ {Q S M P : Type 0} where
         ended = λ there m gone is. is;
         first = λ there m acked. no_acks acked;
         second = λ there m acked. (acked, refl);
+        congests = λ found sent. (no_acks, λ is. is);
       }) first second.goes;
       by = rw (first.came space, first.discarded space) at second.by;
     }
@@ -727,7 +783,7 @@ module _ {Q S M P : Type 0} (past : History Q S M P) (space : SpaceId) (now n : 
         (flight_event past (Received space now n eliciting) (Ok (New arm)) None no_numbers refl (λ gone. omega arith)
         (λ there m leave. no_acks leave))
         (λ there m. refl) (λ there m. refl) (λ there m. refl) refl
-        (λ there below keeps. received_top past there keeps space now n eliciting arm) refl;
+        (λ there below keeps. received_top past there keeps space now n eliciting arm) refl tt;
     by = heard_new Q (is_discarded space past) (nat_le number_limit n) (is_new (came_in space past) n) arm detects;
   }
 
@@ -763,7 +819,7 @@ module _ {Q S M P : Type 0} (past : History Q S M P) (space : SpaceId) (now n : 
         (flight_event past (Received space now n eliciting) (Ok answer) None no_numbers refl (λ gone. omega arith)
         (λ there m leave. no_acks leave))
         (λ there m. refl) (λ there m. refl) (λ there m. refl) refl
-        (λ there below keeps. not_dropped there answer other keeps) (not_silent answer);
+        (λ there below keeps. not_dropped there answer other keeps) (not_silent answer) tt;
     by = heard_again Q (is_discarded space past) (nat_le number_limit n) (is_new (came_in space past) n) answer other
         detects;
   }
@@ -781,7 +837,7 @@ module _ {Q S M P : Type 0} (past : History Q S M P) (space : SpaceId) (now n : 
         (flight_event past (Received space now n eliciting) (Err refusal) None no_numbers refl (λ gone. omega arith)
         (λ there m leave. no_acks leave))
         (λ there m. refl) (λ there m. refl) (λ there m. refl) refl
-        (λ there below keeps. keeps) refl;
+        (λ there below keeps. keeps) refl tt;
     by = heard_refused Q (is_discarded space past) (nat_le number_limit n) (is_new (came_in space past) n) refusal
         detects;
   }
@@ -799,7 +855,7 @@ module _ {Q S M P : Type 0} (past : History Q S M P) where
       (flight_event past (DatagramIn Current bytes) (Ok answer) None no_numbers refl (λ gone. omega arith)
       (λ there m leave. no_acks leave))
       (λ space n. refl) (λ space n. refl) (λ space n. refl) refl
-      (λ space below keeps. keeps) refl
+      (λ space below keeps. keeps) refl tt
 
   pub leaves_event : (now bytes : ℕ) (checked : Bool)
       → GoesOn (leaving bytes) past ((Transmit now bytes checked, Ok Transmitted) ∷ past)
@@ -812,7 +868,7 @@ module _ {Q S M P : Type 0} (past : History Q S M P) where
       (flight_event past (Transmit now bytes checked) (Ok Transmitted) None no_numbers refl (λ gone. omega arith)
       (λ there m leave. no_acks leave))
       (λ space n. refl) (λ space n. refl) (λ space n. refl) refl
-      (λ space below keeps. keeps) refl
+      (λ space below keeps. keeps) refl tt
 
   pub delayed_event : (now bytes until : ℕ) (checked : Bool)
       → GoesOnQuietly past ((Transmit now bytes checked, Ok (Delayed until)) ∷ past)
@@ -823,7 +879,7 @@ module _ {Q S M P : Type 0} (past : History Q S M P) where
       (flight_event past (Transmit now bytes checked) (Ok (Delayed until)) None no_numbers refl (λ gone. omega arith)
       (λ there m leave. no_acks leave))
       (λ space n. refl) (λ space n. refl) (λ space n. refl) refl
-      (λ space below keeps. keeps) refl
+      (λ space below keeps. keeps) refl tt
 
   pub discards_event : (space : SpaceId) (answer : Answer Q)
       → GoesOn (discarding space) past ((DiscardSpace space, Ok answer) ∷ past)
@@ -834,7 +890,7 @@ module _ {Q S M P : Type 0} (past : History Q S M P) where
       (flight_event past (DiscardSpace space) (Ok answer) None (λ there n. same_space space there) refl
       (λ gone. omega arith) (λ there m leave. inl leave))
       (λ there n. refl) (λ there n. refl) (λ there n. refl) refl
-      (λ there below keeps. keeps) refl
+      (λ there below keeps. keeps) refl tt
 
   pub validates_event : (answer : Answer Q) → GoesOn validating past ((Validated Current, Ok answer) ∷ past)
   validates_event answer = event_on validating past (Validated Current) (Ok answer) (λ space. refl)
@@ -844,4 +900,4 @@ module _ {Q S M P : Type 0} (past : History Q S M P) where
       (flight_event past (Validated Current) (Ok answer) None no_numbers refl (λ gone. omega arith)
       (λ there m leave. no_acks leave))
       (λ space n. refl) (λ space n. refl) (λ space n. refl) refl
-      (λ space below keeps. keeps) refl
+      (λ space below keeps. keeps) refl tt

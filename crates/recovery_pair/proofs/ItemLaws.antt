@@ -4,7 +4,6 @@ use Rattle.std.specs.Prelude.{IfOk, MatchResult, OnErr, min, option_to_list, if�
 use Rattle.std.specs.Option.{ForSome}
 use Rattle.rand_core.specs.Stream.{Stream}
 use Rattle.recovery_base.specs.declared.below.SpaceId.{SpaceId}
-use Rattle.recovery_base.specs.declared.below.frames.EcnCounts.{EcnCounts}
 use Rattle.recovery_base.specs.Spaces.{same_space}
 use Rattle.recovery_base.specs.Units.{largest_u64}
 use Rattle.recovery_congestion.specs.Controllers.{ControllerSemantics}
@@ -14,9 +13,6 @@ use Rattle.recovery_events.specs.declared.event.Event.{Event}
 use Rattle.recovery_events.specs.declared.event.Event.TheVariants as events
 use Rattle.recovery_events.specs.declared.event.Refusal.{Refusal}
 use Rattle.recovery_events.specs.declared.event.Refusal.TheVariants.{NoMemory, SpaceDiscarded}
-use Rattle.recovery_spaces.specs.Discarded.{is_discarded}
-use Rattle.recovery_spaces.specs.Spaces.{Space}
-use Rattle.recovery_losses.specs.declared.due.Due.{Due}
 use Rattle.recovery_losses.specs.declared.frames.Ack.{Ack}
 use Rattle.recovery_losses.specs.declared.looks.LossPass.{LossPass}
 use Rattle.recovery_losses.specs.declared.variables.Variables.{Variables}
@@ -25,33 +21,29 @@ use Rattle.recovery_history.specs.declared.config.RecoveryConfig.{RecoveryConfig
 use Rattle.recovery_history.specs.History.{Beginning, History, QueueModel, Reply, begins, queue_model}
 use Rattle.recovery_history.specs.Reachability.{ReachedBy}
 use Rattle.recovery_history.specs.RecoveryState.{RecoveryState}
-use Rattle.recovery_sender.specs.Acking.{AckResult, Acknowledges, EcnCompared, EcnResult, SamplesRtt, acking, first_marked}
+use Rattle.recovery_sender.specs.Acking.{AckResult, Acknowledges, acking}
 use Rattle.recovery_sender.specs.Attempts.{LossAttempt, declared_in, probe_attempts, trying}
-use Rattle.recovery_sender.specs.Calls.{EventResult, IsAnsweredEvent, IsEventResult, ProbeResult, changes_path, transmit_steps}
+use Rattle.recovery_sender.specs.Calls.{EventResult, IsEventResult, ProbeResult, changes_path, transmit_steps}
 use Rattle.recovery_sender.specs.Detection.{DetectsLosses, congested, detecting, ended}
 use Rattle.recovery_sender.specs.Losses.{largest_in, look_of}
 use Rattle.recovery_sender.specs.Senders.{state_in}
 use Rattle.recovery_sender.specs.Spaces.{packets_in}
-use Rattle.recovery_sender.specs.Steps.{CompletesCall, RearmsTimer, SenderStep, StepsLeadTo, TakesSteps, loss_time, marked, occurs, timed, told}
+use Rattle.recovery_sender.specs.Steps.{CompletesCall, SenderStep, StepsLeadTo, TakesSteps, loss_time, marked, occurs, told}
 use Rattle.recovery_sender.specs.Timeouts.{DetectsByTime, TimeoutResult}
-use Rattle.recovery_sender.specs.Timer.{due_of}
 use Rattle.recovery_sender.specs.declared.sender.Sender.{Sender}
 use Rattle.recovery_sender.specs.declared.sender.SenderError.{SenderError}
 use Rattle.recovery_sender.specs.declared.sender.SenderError.TheVariants as refused
 use Rattle.recovery_sender.specs.declared.sender.acks.Acknowledged.{Acknowledged}
-use Rattle.recovery_sender.specs.declared.sender.acks.EcnOutcome.{EcnOutcome}
-use Rattle.recovery_sender.specs.declared.sender.acks.EcnOutcome.TheVariants.{Quiet, Marked, Failed}
 use Rattle.recovery_sender.specs.declared.sender.losses.Losses.{Losses}
 use Rattle.recovery_sender.specs.declared.sender.packets.Transmission.{Transmission}
 use Rattle.recovery_sender.specs.declared.sender.packets.Transmission.TheVariants as transmission
 use Rattle.recovery_sender.specs.declared.sender.probes.Timeout.{Timeout}
 use Rattle.recovery_sender.specs.declared.sender.probes.Timeout.TheVariants.{Nothing, Lost, Probe}
-use Rattle.recovery_sender.proofs.ExtendedLaws.{loss_time_reached, marks_reached}
 use Rattle.recovery_pair.specs.declared.steps.AckOutcome.TheVariants.{Taken}
 use Rattle.recovery_pair.specs.Carried.{Carries, CarriesNone, CarriesOn, ContentsTurn, all_sent_with, amount_of, amount_with, is_probing, lost_by_ack, lost_by_timeout, lost_there, losing, none_lost, probed_there, sending_with, sent_with, taken_if, taken_there, taking}
 use Rattle.recovery_pair.specs.Logs.{part}
 use Rattle.recovery_pair.specs.Promises.Resends.{lost_of}
-use Rattle.recovery_pair.proofs.QuietLaws.{joined}
+use Rattle.recovery_pair.proofs.AlongLaws.{AreSo, Extends, call_so, completes_so, ecn_so, event_so, joined, leads_so, passes_so, same_so, samples_so, steps_so}
 
 -- ---- one past after another
 
@@ -344,12 +336,17 @@ module _ {Q S M P : Type 0} (contents : Q → P) where
 -- ---- steps
 
 abbrev pub AreStill : {Q S M P : Type 0} → (Q → P) → List (SenderStep Q S M P) → Type 0
-AreStill contents [] = Unit {0}
-AreStill contents (told event reply ∷ steps) = IsStill contents event reply × AreStill contents steps
-AreStill {Q = Q} contents (occurs event ∷ steps) =
-    ((answer : Answer Q) → IsStill contents event (Ok answer)) × AreStill contents steps
-AreStill contents (loss_time space time ∷ steps) = AreStill contents steps
-AreStill contents (marked marks ∷ steps) = AreStill contents steps
+AreStill contents = AreSo (IsStill contents)
+
+still_along : {Q S M P : Type 0} (contents : Q → P)
+    → Extends (IsStill {S = S} {M = M} contents) (CarriesOn contents (losing none_lost))
+still_along contents = record {
+  none = still_none contents;
+  one = still_event contents;
+  joins = then_still contents (losing none_lost);
+  sets = λ time. tt;
+  stops = tt;
+}
 
 module _ (Q S M P : Type 0) (contents : Q → P) where
   still_ended : (now : ℕ) (reported : Bool) (numbers : List ℕ)
@@ -366,16 +363,6 @@ module _ (Q S M P : Type 0) (contents : Q → P) where
       → AreStill {S = S} {M = M} contents (acking space now limited numbers)
   still_acking space now limited [] = tt
   still_acking space now limited (number ∷ numbers) = (λ answer. tt, still_acking space now limited numbers)
-
-  still_first : {K : Type 0} (recovery : RecoveryState K P M) (space : SpaceId) (first : Option (SpaceId × ℕ))
-      (here : Option (Space P M)) → AreStill {S = S} contents (first_marked recovery space first here)
-  still_first recovery space None (Some here) = tt
-  still_first recovery space None None = tt
-  still_first recovery space (Some first) here = tt
-
-  still_timer : (due : Option (ℕ × Due)) → AreStill {S = S} {M = M} contents (timed due ∷ [])
-  still_timer None = (tt, tt)
-  still_timer (Some due) = (tt, tt)
 
 -- the MTU probe is declared lost last
 probe_told : (found declared : Option ℕ) → ForSome declared (λ number. found ≡ Some number)
@@ -432,43 +419,7 @@ module _ {F K Q S M P : Type 0} (built : F → ℕ → ℕ → K) (words : Contr
   leads_still : (steps : List (SenderStep Q S M P)) (old new : RecoveryState K P M) → AreStill queue.contents steps
       → Leads steps old new → (past : History Q S M P) → ReachedBy beginning past old
       → Arrives (losing none_lost) past new
-  leads_still [] old new still leads past came = (
-    past,
-    subst (λ (at : RecoveryState K P M). ReachedBy beginning past at) (sym leads) came,
-    still_none queue.contents past,
-  )
-  leads_still (told event reply ∷ steps) old new still leads past came =
-      let one = leads.2 config start random past came in
-      let rest = leads_still steps leads.0 new still.1 leads.3 ((event, reply) ∷ past) one.came in (
-        rest.0,
-        rest.1,
-        then_still queue.contents (losing none_lost) past ((event, reply) ∷ past) rest.0
-            (still_event queue.contents event reply still.0 past) rest.2,
-      )
-  leads_still (occurs event ∷ steps) old new still leads past came =
-      let one = leads.3 config start random past came in
-      let rest = leads_still steps leads.1 new still.1 leads.4 ((event, Ok leads.0) ∷ past) one.came in (
-        rest.0,
-        rest.1,
-        then_still queue.contents (losing none_lost) past ((event, Ok leads.0) ∷ past) rest.0
-            (still_event queue.contents event (Ok leads.0) (still.0 leads.0) past) rest.2,
-      )
-  leads_still (loss_time space time ∷ steps) old new still leads past came =
-      leads_still steps _ new still leads past
-      (loss_time_reached beginning past old came space time (is_discarded space old.discarded))
-  leads_still (marked marks ∷ steps) old new still leads past came =
-      leads_still steps _ new still leads past (marks_reached beginning past old came marks)
-
-  rearms_still : (kept : Variables) (old new : RecoveryState K P M) → RearmsTimer built words queue kept old new
-      → (past : History Q S M P) → ReachedBy beginning past old → Arrives (losing none_lost) past new
-  rearms_still kept old new (inl (set, same)) past came = (
-    past,
-    subst (λ (at : RecoveryState K P M). ReachedBy beginning past at) (sym same) came,
-    still_none queue.contents past,
-  )
-  rearms_still kept old new (inr (unset, leads)) past came =
-      leads_still (timed (due_of new kept) ∷ []) old new (still_timer Q S M P queue.contents (due_of new kept)) leads
-      past came
+  leads_still = leads_so built words queue config start random (still_along queue.contents)
 
   -- packets are declared lost one after another
   trying_loses : (there : SpaceId) (attempts : List LossAttempt) (old new : RecoveryState K P M)
@@ -547,15 +498,7 @@ module _ {F K Q S M P : Type 0} (built : F → ℕ → ℕ → K) (words : Contr
 
 module _ {F Q R C K S M P : Type 0} {f : _} {c : _} {q : _} {m : _} {r : _} where
   pub same_carries : (old new : Sender F Q R C K S M P f c q m r) → new ≡ old → CarriesNone old new
-  same_carries old new same = record {
-    from = λ config start random past came. (
-      past,
-      subst (λ (at : Sender F Q R C K S M P f c q m r).
-          ReachedBy (begins f.built c.words (queue_model q.contents q.words q.blank) config start random) past
-          (state_in at)) (sym same) came,
-      still_none q.contents past,
-    );
-  }
+  same_carries = same_so (still_along q.contents)
 
   -- a call by which nothing is taken, sent or lost comes after another one, or before it
   pub carries_then : (turn : ContentsTurn P) (old between new : Sender F Q R C K S M P f c q m r)
@@ -570,37 +513,11 @@ module _ {F Q R C K S M P : Type 0} {f : _} {c : _} {q : _} {m : _} {r : _} wher
 
   steps_carry : (steps : List (SenderStep Q S M P)) (old new : Sender F Q R C K S M P f c q m r)
       → TakesSteps steps old new → AreStill q.contents steps → CarriesNone old new
-  steps_carry steps old new goes still = record {
-    from = λ config start random past came.
-        leads_still f.built c.words (queue_model q.contents q.words q.blank) config start random steps
-        (state_in old) (state_in new) still goes.leads past came;
-  }
-
-  -- a call takes steps by which each past goes on so, and sets the timer
-  completes : (turn : ContentsTurn P) (steps : List (SenderStep Q S M P)) (kept : Variables)
-      (old new : Sender F Q R C K S M P f c q m r) → CompletesCall steps kept old new
-      → ((config : RecoveryConfig F) (start : ℕ) (random : Stream) (past : History Q S M P)
-      (between : RecoveryState K P M)
-      → StepsLeadTo f.built c.words (queue_model q.contents q.words q.blank) steps (state_in old) between
-      → (let beginning = begins f.built c.words (queue_model q.contents q.words q.blank) config start random in
-      ReachedBy beginning past (state_in old)
-      → (after : History Q S M P) × ReachedBy beginning after between × CarriesOn q.contents turn past after))
-      → Carries turn old new
-  completes turn steps kept old new does goes = record {
-    from = λ config start random past came. (
-        let queue = queue_model q.contents q.words q.blank in
-        let one = goes config start random past does.between does.leads came in
-        let two = rearms_still f.built c.words queue config start random kept does.between (state_in new) does.sets
-        one.0 one.1 in
-        (two.0, two.1, then_still q.contents turn past one.0 two.0 one.2 two.2));
-  }
+  steps_carry steps old new = steps_so (still_along q.contents) old new steps
 
   pub call_carries : (steps : List (SenderStep Q S M P)) (kept : Variables) (old new : Sender F Q R C K S M P f c q m r)
       → CompletesCall steps kept old new → AreStill q.contents steps → CarriesNone old new
-  call_carries steps kept old new does still = completes (losing none_lost) steps kept old new does
-      (λ config start random past between leads came.
-      leads_still f.built c.words (queue_model q.contents q.words q.blank) config start random steps (state_in old)
-      between still leads past came)
+  call_carries steps kept old new = call_so (still_along q.contents) old new steps kept
 
   -- a call that may fail
   pub tries_carries : {A : Type 0} (Steps : A → List (SenderStep Q S M P)) (kept : A → Variables)
@@ -616,11 +533,7 @@ module _ {F Q R C K S M P : Type 0} {f : _} {c : _} {q : _} {m : _} {r : _} wher
   pub event_carries : (event : Event Q S M P) (old new : Sender F Q R C K S M P f c q m r)
       → ((reply : Reply Q) → IsStill q.contents event reply) → changes_path event ≡ false
       → (result : Result (Answer Q) SenderError) → IsEventResult event old new result → CarriesNone old new
-  event_carries event old new still stays (Ok answer) is = call_carries _ _ old new
-      (subst (λ (changes : Bool). IsAnsweredEvent event old new answer changes) stays is) (still (Ok answer), tt)
-  event_carries event old new still stays (Err (refused.Event refusal)) takes =
-      steps_carry _ old new takes (still (Err refusal), tt)
-  event_carries event old new still stays (Err refused.Unsent) never = absurd never
+  event_carries event old new = passes_so (still_along q.contents) old new event
 
   pub transmit_carries : (now bytes : ℕ) (checked : Bool) (kept : Variables)
       (old new : Sender F Q R C K S M P f c q m r) (result : Result Transmission SenderError)
@@ -639,15 +552,10 @@ module _ {F Q R C K S M P : Type 0} {f : _} {c : _} {q : _} {m : _} {r : _} wher
   pub pending_carries : (space : SpaceId) (queue : Q) (old new : Sender F Q R C K S M P f c q m r)
       → EventResult (events.TakePending space) old new (Ok (answers.Queue queue))
       → Carries (taking false space (q.contents queue)) old new
-  pending_carries space queue old new does = completes (taking false space (q.contents queue)) _ _ old new does
-      (λ config start random past between leads came. (
-        (events.TakePending space, Ok (answers.Queue queue)) ∷ past,
-        subst (λ (at : RecoveryState K P M). ReachedBy (begins f.built c.words
-            (queue_model q.contents q.words q.blank) config start random)
-            ((events.TakePending space, Ok (answers.Queue queue)) ∷ past) at) (sym leads.3)
-            (leads.2 config start random past came).came,
-        taken_event q.contents space queue past,
-      ))
+  pending_carries space queue old new does = event_so (still_along q.contents) old new _ _
+      (CarriesOn q.contents (taking false space (q.contents queue)))
+      (then_still q.contents (taking false space (q.contents queue))) _ does
+      (λ config start random past keeps. taken_event q.contents space queue past)
 
   -- an event that fails
   pub failed_carries : (event : Event Q S M P) (old new : Sender F Q R C K S M P f c q m r)
@@ -660,7 +568,8 @@ module _ {F Q R C K S M P : Type 0} {f : _} {c : _} {q : _} {m : _} {r : _} wher
       (old new : Sender F Q R C K S M P f c q m r) → ProbeResult space immediate streams old new (Ok queue)
       → Carries (taking true space (q.contents queue)) old new
   probe_carries space immediate streams queue old new is =
-      completes (taking true space (q.contents queue)) _ old.variables old new is.2
+      completes_so (still_along q.contents) old new (CarriesOn q.contents (taking true space (q.contents queue)))
+      (then_still q.contents (taking true space (q.contents queue))) _ old.variables is.2
       (λ config start random past between leads came. (
       let one = leads.2 config start random past came in
       let next = leads.3 in
@@ -696,18 +605,11 @@ module _ {F Q R C K S M P : Type 0} {f : _} {c : _} {q : _} {m : _} {r : _} wher
       (Ok (answers.Sent number forgotten)) ∷ []) kept old new
       → Carries (sending_with space number (q.contents queue)) old new
   send_carries space now size eliciting largest queue frames number forgotten kept old new does =
-      completes (sending_with space number (q.contents queue)) _ kept old new does
-      (λ config start random past between leads came. (
-      let sent : Event Q S M P × Reply Q = (
-        events.Send space now size eliciting largest queue frames,
-        Ok (answers.Sent number forgotten),
-      ) in (
-        sent ∷ past,
-        subst (λ (at : RecoveryState K P M). ReachedBy (begins f.built c.words
-            (queue_model q.contents q.words q.blank) config start random) (sent ∷ past) at) (sym leads.3)
-            (leads.2 config start random past came).came,
-        sent_event q.contents space now size eliciting largest queue frames number forgotten past,
-      )))
+      event_so (still_along q.contents) old new _ _ (CarriesOn q.contents (sending_with space number (q.contents
+      queue)))
+      (then_still q.contents (sending_with space number (q.contents queue))) kept does
+      (λ config start random past keeps. sent_event q.contents space now size eliciting largest queue frames number
+      forgotten past)
 
   -- ---- losses
 
@@ -758,50 +660,27 @@ module _ {F Q R C K S M P : Type 0} {f : _} {c : _} {q : _} {m : _} {r : _} wher
 
   -- ---- an ACK frame
 
-  samples_carry : (space : SpaceId) (delay : ℕ) (old new : Sender F Q R C K S M P f c q m r) (rtt : Option ℕ)
-      → SamplesRtt space delay old new rtt → CarriesNone old new
-  samples_carry space delay old new None goes = steps_carry [] old new goes tt
-  samples_carry space delay old new (Some rtt) goes = carries_then (losing none_lost) old goes.0 new
-      (steps_carry _ old goes.0 goes.1 (λ answer. tt, tt))
-      (steps_carry _ goes.0 new goes.2 (still_first Q S M P q.contents (state_in goes.0) space _ _))
-
-  compared_carry : (space : SpaceId) (now newly : ℕ) (old new : Sender F Q R C K S M P f c q m r)
-      (counts : EcnCounts) (end : EcnOutcome) → EcnCompared space now newly old new counts end → CarriesNone old new
-  compared_carry space now newly old new counts Quiet goes = steps_carry _ old new goes.2 (tt, tt)
-  compared_carry space now newly old new counts Marked goes = carries_then (losing none_lost) old goes.1 new
-      (steps_carry _ old goes.1 goes.3 (tt, tt))
-      (steps_carry _ goes.1 new goes.4 (still_congested Q S M P q.contents now false 0 _))
-  compared_carry space now newly old new counts Failed goes = carries_then (losing none_lost) old goes.0 new
-      (steps_carry _ old goes.0 goes.2 (tt, tt)) (steps_carry _ goes.0 new goes.3 tt)
-
-  ecn_carries : (space : SpaceId) (now newly : ℕ) (old new : Sender F Q R C K S M P f c q m r) (sending : Bool)
-      (counts : Option EcnCounts) (raised : Bool) (end : EcnOutcome)
-      → EcnResult space now newly old new sending counts raised end → CarriesNone old new
-  ecn_carries space now newly old new false counts raised end goes = steps_carry [] old new goes.1 tt
-  ecn_carries space now newly old new true None raised end goes = steps_carry _ old new goes.1 tt
-  ecn_carries space now newly old new true (Some counts) false end goes = steps_carry [] old new goes.1 tt
-  ecn_carries space now newly old new true (Some counts) true end goes =
-      compared_carry space now newly old new counts end goes
-
   acknowledges_carries : (space : SpaceId) (now : ℕ) (ranges : List (ℕ × ℕ)) (ack : Ack) (elicits : Bool)
-      (old new : Sender F Q R C K S M P f c q m r) (acked : Acknowledged)
+      (old new : Sender F Q R C K S M P f c q m r) (acked : Acknowledged) → ack.ecn ≡ None
       → Acknowledges space now ranges ack elicits old acked new → Carries (lost_so space acked.losses) old new
-  acknowledges_carries space now ranges ack elicits old new acked is =
-      let model = queue_model q.contents q.words q.blank in
+  acknowledges_carries space now ranges ack elicits old new acked unmarked is =
       let turn = lost_so space acked.losses in
       then_carries turn old is.taken new
       (steps_carry _ old is.taken is.acks (still_acking Q S M P q.contents space now _ acked.numbers.items))
       (then_carries turn is.taken is.ended new (steps_carry _ is.taken is.ended is.ends (λ answer. tt, tt))
-      (then_carries turn is.ended is.sampled new (samples_carry space ack.delay is.ended is.sampled _ is.samples)
+      (then_carries turn is.ended is.sampled new (samples_so (still_along q.contents) is.ended is.sampled
+      (λ delay rtt answer. tt) space ack.delay _ is.samples)
       (carries_then turn is.sampled is.looked new
       (detects_carries space now true acked.losses is.sampled is.looked is.detects)
       (carries_then (losing none_lost) is.looked is.heard new
-      (ecn_carries space now _ is.looked is.heard _ _ _ _ is.compares) (call_carries [] _ is.heard new is.does tt)))))
+      (ecn_so (still_along q.contents) is.looked is.heard space now _ _ _ _ _ unmarked is.compares) (call_carries [] _
+      is.heard new is.does tt)))))
 
   pub ack_carries : (space : SpaceId) (now : ℕ) (ranges : List (ℕ × ℕ)) (ack : Ack)
       (old new : Sender F Q R C K S M P f c q m r) (acked : Acknowledged)
-      → AckResult space now ranges ack old new (Ok acked) → Carries (losing (lost_by_ack space (Taken acked))) old new
-  ack_carries space now ranges ack old new acked is = by acked.numbers.items refl
+      → AckResult space now ranges ack old new (Ok acked) → ack.ecn ≡ None
+      → Carries (losing (lost_by_ack space (Taken acked))) old new
+  ack_carries space now ranges ack old new acked is unmarked = by acked.numbers.items refl
     where
       by : (numbers : List ℕ) → acked.numbers.items ≡ numbers
           → Carries (losing (lost_by_ack space (Taken acked))) old new
@@ -812,4 +691,5 @@ module _ {F Q R C K S M P : Type 0} {f : _} {c : _} {q : _} {m : _} {r : _} wher
           empty.lost.numbers (ap option_to_list empty.lost.probe)) old new
           (call_carries [] old.variables old new empty.does tt)
       by (number ∷ numbers) some =
-          acknowledges_carries space now ranges ack is.elicits old new acked (is.some (λ none. absurd cc))
+          acknowledges_carries space now ranges ack is.elicits old new acked unmarked
+          (is.some (λ none. absurd cc))

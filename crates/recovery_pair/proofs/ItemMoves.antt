@@ -17,14 +17,9 @@ use Rattle.recovery_pair.specs.Logs.{part}
 use Rattle.recovery_pair.specs.Waits.{waiting_in}
 use Rattle.recovery_pair.specs.Promises.Repeats.{is_probe}
 use Rattle.recovery_pair.proofs.ItemLaws.{carries_then, same_carries, taken_then_sent, then_carries}
-use Rattle.recovery_pair.proofs.QuietLaws.{joined}
+use Rattle.recovery_pair.proofs.AlongLaws.{joined}
 
 -- ---- what waits
-
-pub none_exchanged : (there : SpaceId) (items : List ℕ) (old new : List Waiting) → new ≡ old
-    → Exchanges old new there items items
-none_exchanged there items old new same measure none space =
-    ap (λ (all : List Waiting). part (same_space there space) (measure items) + waiting_in measure space all) (sym same)
 
 pub empty_part : (b : Bool) (amount : ℕ) → amount ≡ 0 → part b amount ≡ 0
 empty_part true amount none = none
@@ -114,11 +109,6 @@ module _ {F Q R C K S M : Type 0} {f : _} {c : _} {q : _} {m : _} {r : _} where
       (waits after : List Waiting) → Carries (losing numbers) old new → after ≡ waits
       → MovesItems None None numbers IsNoProbe (old, waits) (new, after)
   calls_move numbers = moves_by numbers IsNoProbe tt
-
-  -- or of which one tried a probe
-  pub none_back : (space : SpaceId) (old new : Sender F Q R C K S M (List ℕ) f c q m r) (waits after : List Waiting)
-      → CarriesNone old new → after ≡ waits → MovesBack space (old, waits) (new, after)
-  none_back space = moves_by none_lost (IsProbeIn space) tt
 
   -- nothing changes
   pub same_moves : (old new : Sender F Q R C K S M (List ℕ) f c q m r) (waits after : List Waiting) → new ≡ old

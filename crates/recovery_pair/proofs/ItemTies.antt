@@ -7,7 +7,6 @@ use Rattle.recovery_base.specs.declared.below.SpaceId.{SpaceId}
 use Rattle.recovery_base.specs.Spaces.{same_space}
 use Rattle.recovery_spaces.specs.Discarded.{is_discarded}
 use Rattle.recovery_spaces.specs.Queued.{QueuedState}
-use Rattle.recovery_history.specs.History.{begins, queue_model}
 use Rattle.recovery_sender.specs.Senders.{state_in}
 use Rattle.recovery_sender.specs.declared.sender.Sender.{Sender}
 use Rattle.recovery_sender.specs.declared.sender.SenderError.{SenderError}
@@ -34,6 +33,7 @@ use Rattle.recovery_pair.specs.Promises.Repeats.{RepeatsWithCause, has_failed, i
 use Rattle.recovery_pair.specs.Promises.Resends.{AddsItems, ResendsWhatIsLost, lost_by, lost_in, sent_under, sum_of}
 use Rattle.recovery_pair.specs.Turns.{TurnsAt}
 use Rattle.recovery_pair.specs.Waits.{LosesNone, waiting_in}
+use Rattle.recovery_pair.proofs.AlongLaws.{beginning_of, past_after, went}
 use Rattle.recovery_pair.proofs.ItemMoves.{empty_part, same_moves}
 use Rattle.recovery_pair.proofs.LogLaws.{IsNoPacket, IsNotLocal}
 use Rattle.recovery_pair.proofs.RepeatLaws.{repeats_lost}
@@ -113,16 +113,9 @@ module _ {F Q R C K S M : Type 0} {f : _} {c : _} {q : _} {m : _} {r : _} where
       → AddsToLog event log end hands sends loses IsProbed → MovesItems hands sends loses IsProbed old new
       → CarriesItems log end old → CarriesItems (event ∷ log) end new
   carries_on event log end hands sends loses IsProbed old new adds moves carried =
-      let own = moves.goes.from carried.own.config carried.own.start carried.own.random carried.own.past
-      carried.own.came in
+      let own = went carried.own moves.goes in
       record {
-        own = record {
-          config = carried.own.config;
-          start = carried.own.start;
-          random = carried.own.random;
-          past = own.0;
-          came = own.1;
-        };
+        own = past_after carried.own moves.goes;
         held = λ measure none space. (
             let one = carried.held measure none space in
             let two = moves.balances measure none space in
@@ -164,8 +157,8 @@ module _ {F Q R C K S M : Type 0} {f : _} {c : _} {q : _} {m : _} {r : _} where
       let own = carried.own in
       let dropped = own.came.state_after.discarded space in
       let active = known space ∙ keys in
-      let all = requeues_lost (begins f.built c.words (queue_model q.contents q.words q.blank) own.config own.start
-      own.random) measure contents space own.past own.came.replies (sym dropped ∙ active) in
+      let all = requeues_lost (beginning_of own) measure contents space own.past own.came.replies (sym dropped ∙ active)
+      in
       let waits = ap (λ (queued : QueuedState (List ℕ)). measure queued.pending)
       (own.came.state_after.spaces space).queued in
       let empty = ap measure (idle active).1 ∙ contents.none in
@@ -182,8 +175,7 @@ module _ {F Q R C K S M : Type 0} {f : _} {c : _} {q : _} {m : _} {r : _} where
       ≤ handed end measure space log + (lost_in end space measure log + probed_in end space measure log)
   repeats_at log end here carried space tracks measure adds =
       let own = carried.own in
-      let all = repeats_lost (begins f.built c.words (queue_model q.contents q.words q.blank) own.config own.start
-      own.random) measure (carried.adds measure adds) space own.past own.came.replies in
+      let all = repeats_lost (beginning_of own) measure (carried.adds measure adds) space own.past own.came.replies in
       let held = carried.held measure adds.none space in
       let lost = carried.lost measure space in
       let probed = carried.probed measure adds.none space tracks in

@@ -1,5 +1,7 @@
+pub mod AlongLaws
 pub mod BoundLaws
 pub mod DeadlockLaws
+pub mod FallLaws
 pub mod FlightLaws
 pub mod FrameLaws
 pub mod GoingLaws
@@ -8,6 +10,7 @@ pub mod ItemLaws
 pub mod ItemMoves
 pub mod ItemRows
 pub mod ItemTies
+pub mod KnownLaws
 pub mod LargestLaws
 pub mod LeastLaws
 pub mod LogLaws
@@ -28,5 +31,6 @@ pub mod StepTies
 pub mod TieLaws
 pub mod TimedLaws
 pub mod TopLaws
+pub mod TripLaws
 pub mod TurnLaws
 pub mod WaitLaws

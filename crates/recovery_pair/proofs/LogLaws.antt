@@ -18,6 +18,7 @@ use Rattle.recovery_pair.specs.declared.steps.PairAnswer.TheVariants.{Arrived, D
 use Rattle.recovery_pair.specs.declared.steps.PairStep.{PairStep}
 use Rattle.recovery_pair.specs.declared.steps.SentAck.{SentAck}
 use Rattle.recovery_pair.specs.declared.steps.PairStep.TheVariants.{Arrive, Local, Send}
+use Rattle.recovery_pair.specs.Congested.{Congestions, any_congestion, no_congestion}
 use Rattle.recovery_pair.specs.Logs.{PairEvent, PairLog, bytes_arrived, bytes_sent, has_validated, is_eliciting, numbers_at, other_end, time_sent, was_discarded}
 use Rattle.recovery_pair.specs.Flights.{Numbers, counted_if, ends_by_timer, flight_of, no_numbers as none_gone}
 use Rattle.recovery_pair.specs.Pasts.{GoesOn, EndTurn, added, ending, endings_by_fate, hearing, is_of, losing, new_by, packet_leaving, quiet, with_eliciting, with_largest, with_number, with_time}
@@ -393,12 +394,13 @@ module _ (log : PairLog) where
     pub unacked : (space : SpaceId) (n : ℕ) → turn.acks space n ≡ true → ⊥
 
   -- it discards a space, validates an address, or has packets declared lost
-  abbrev changing : Option SpaceId → Bool → Numbers → EndTurn
-  changing discards validates gone = record (ending (losing gone)) { discards = discards; validates = validates }
+  abbrev changing : Option SpaceId → Bool → Numbers → Congestions → EndTurn
+  changing discards validates gone congests =
+      record (ending (losing gone)) { discards = discards; validates = validates; congests = congests }
 
-  moves : (discards : Option SpaceId) (validates : Bool) (gone : Numbers)
-      → MovesNone (changing discards validates gone)
-  moves discards validates gone = record {
+  moves : (discards : Option SpaceId) (validates : Bool) (gone : Numbers) (congests : Congestions)
+      → MovesNone (changing discards validates gone congests)
+  moves discards validates gone congests = record {
     came = refl;
     heard = refl;
     arrives = refl;
@@ -410,14 +412,15 @@ module _ (log : PairLog) where
   }
 
   pub quiet_moves : MovesNone quiet
-  quiet_moves = moves None false none_gone
+  quiet_moves = moves None false none_gone no_congestion
 
   pub local_moves : (step : LocalStep) (answer : Result PairAnswer SenderError) → MovesNone (local_turn step answer)
   local_moves (Discard there now) (Ok Done) = moves (Some there) false (λ space n. same_space there space)
+      no_congestion
   local_moves (Discard there now) answer = quiet_moves
-  local_moves AddressValidated (Ok Done) = moves None true none_gone
+  local_moves AddressValidated (Ok Done) = moves None true none_gone no_congestion
   local_moves AddressValidated answer = quiet_moves
-  local_moves (Expire now) answer = moves None false (ends_by_timer answer)
+  local_moves (Expire now) answer = moves None false (ends_by_timer answer) any_congestion
   local_moves step answer = quiet_moves
 
   added_none : (counts : Option (SpaceId × ℕ × ℕ)) (gone : Numbers) → counts ≡ None → added counts gone ≡ 0

@@ -23,14 +23,7 @@ use Rattle.recovery_pair.specs.Flights.{Numbers, counted_if}
 use Rattle.recovery_pair.specs.Newly.{AcksFlight, AcksFlightBy}
 use Rattle.recovery_pair.specs.Pasts.{flight_in}
 use Rattle.recovery_pair.specs.Promises.Newly.{all_but}
-
-or_right : (a b : Bool) → (a || b) ≡ false → b ≡ false
-or_right true b is = absurd (true≢false is)
-or_right false b is = is
-
-or_left : (a b : Bool) → (a || b) ≡ false → a ≡ false
-or_left true b is = absurd (true≢false is)
-or_left false b is = refl
+use Rattle.recovery_pair.proofs.FlightLaws.{or_left, or_right}
 
 not_true : (a : Bool) → not a ≡ false → a ≡ true
 not_true true is = refl

@@ -15,7 +15,6 @@ use Rattle.recovery_history.specs.History.{History, Reply, begins, queue_model}
 use Rattle.recovery_history.specs.Reachability.{ReachedBy, StepGuarantees}
 use Rattle.recovery_history.specs.RecoveryState.{RecoveryState}
 use Rattle.recovery_sender.specs.Calls.{EventResult, transmit_steps}
-use Rattle.recovery_sender.specs.Senders.{state_in}
 use Rattle.recovery_sender.specs.Steps.{CompletesCall, TakesSteps, told}
 use Rattle.recovery_sender.specs.declared.sender.Sender.{Sender}
 use Rattle.recovery_sender.specs.declared.sender.SenderError.{SenderError}
@@ -25,8 +24,9 @@ use Rattle.recovery_sender.specs.declared.sender.packets.Transmission.TheVariant
 use Rattle.recovery_pair.specs.Flights.{counted_if}
 use Rattle.recovery_pair.specs.Pasts.{Continues, EndTurn, GoesOn, GoesOnQuietly, HearsNumber, SendsNumber, arm_told, heard_of, leaving, no_endings, quiet}
 use Rattle.recovery_pair.specs.Turns.{TransmitTurn, TriesTurn}
+use Rattle.recovery_pair.proofs.AlongLaws.{event_so}
 use Rattle.recovery_pair.proofs.GoingLaws.{delayed_event, dropped_event, hears_event, hears_then_quiet, known_event, leaves_event, same_itself, sends_event, sends_then_quiet, then_quiet}
-use Rattle.recovery_pair.proofs.QuietLaws.{call_quietly, rearms_quietly, same_quietly}
+use Rattle.recovery_pair.proofs.QuietLaws.{call_quietly, ending_along, same_quietly}
 
 pub counted_once : (eliciting : Bool) (size : ℕ)
     → counted_if eliciting (counted_if eliciting size) ≡ counted_if eliciting size
@@ -47,16 +47,7 @@ module _ {F Q R C K S M P : Type 0} {f : _} {c : _} {q : _} {m : _} {r : _} (eve
         → StepGuarantees (begins f.built c.words (queue_model q.contents q.words q.blank) config start random) past
         event
         reply → Goes past ((event, reply) ∷ past)) → Continues Goes old new
-    call_goes kept old new does goes = record {
-      from = λ config start random past came. (
-          let queue = queue_model q.contents q.words q.blank in
-          let leads = does.leads in
-          let one = leads.2 config start random past came in
-          let two = rearms_quietly f.built c.words queue config start random kept does.between (state_in new) does.sets
-          ((event, reply) ∷ past) (subst (λ (at : RecoveryState K P M). ReachedBy (begins f.built c.words queue config
-          start random) ((event, reply) ∷ past) at) (sym leads.3) one.came) in
-          (two.0, two.1, joins past ((event, reply) ∷ past) two.0 (goes config start random past one.keeps) two.2));
-    }
+    call_goes kept old new = event_so (ending_along no_endings) old new event reply Goes joins kept
 
     pub steps_go : (old new : Sender F Q R C K S M P f c q m r) → TakesSteps (told event reply ∷ []) old new
         → ((config : RecoveryConfig F) (start : ℕ) (random : Stream) (past : History Q S M P)

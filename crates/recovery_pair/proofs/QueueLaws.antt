@@ -103,32 +103,36 @@ pub step_keeps : {F Q R C K S M : Type 0} {f : _} {c : _} {q : _} {m : _} {r : _
     client_waits_after server_waits_after
 step_keeps client server client_after server_after wire wire_after client_waits server_waits client_waits_after
     server_waits_after step answer exchange local queue items validated log tied =
-    let one = exchange validated log tied.ends in
+    let both = exchange validated log tied.ends in
+    let one = both.0 in
     let two = queue log tied.own_waits tied.peer_waits in
     let ends = tied.ends in
     let three = items log (λ space. ends.own.came.state_after.discarded space ∙ ends.logged.discarded space)
     (λ space. ends.peer.came.state_after.discarded space ∙ ends.peer_logged.discarded space) tied.own_items
     tied.peer_items in (
+      (
+        record {
+          honest = one.0.honest;
+          delivered = one.0.delivered;
+          arrives = one.0.arrives;
+          limited = one.0.limited;
+          window = one.0.window;
+          delay = one.0.delay;
+          flight = one.0.flight;
+          largest = one.0.largest;
+          framed = one.0.framed;
+          newly = one.0.newly;
+          samples = one.0.samples;
+          sends = two.0;
+          resends = three.0;
+          repeats = repeats_with_cause ((step, answer) ∷ log) (client_after, client_waits_after)
+              (server_after, server_waits_after) three.1 three.2;
+          local = local;
+        },
+        one.1,
+      ),
       record {
-        honest = one.0.honest;
-        delivered = one.0.delivered;
-        arrives = one.0.arrives;
-        limited = one.0.limited;
-        window = one.0.window;
-        delay = one.0.delay;
-        flight = one.0.flight;
-        largest = one.0.largest;
-        framed = one.0.framed;
-        newly = one.0.newly;
-        samples = one.0.samples;
-        sends = two.0;
-        resends = three.0;
-        repeats = repeats_with_cause ((step, answer) ∷ log) (client_after, client_waits_after)
-            (server_after, server_waits_after) three.1 three.2;
-        local = local;
-      },
-      record {
-        ends = one.1;
+        ends = both.1;
         own_waits = two.1;
         peer_waits = two.2;
         own_items = three.1;

@@ -34,9 +34,6 @@ use Rattle.recovery_pair.specs.Logs.{part}
 
 -- ---- tests
 
-part_none : (amount : ℕ) → part false amount ≡ 0
-part_none amount = refl
-
 more_none : (b : Bool) (t amount more : ℕ) → more_if b t ≡ 0 → (t ≡ 0 → more ≡ 0) → part b amount + more ≡ 0
 more_none true t amount more none rest = absurd (omega (arith, none))
 more_none false t amount more none rest = let is = rest none in omega (arith, is)

@@ -25,8 +25,8 @@ use Rattle.recovery_pair.specs.Logs.{PairLog, deliveries_of, other_end}
 use Rattle.recovery_pair.specs.Pasts.{AcksBelow, AcksWithin, EndTurn, GoesOn, GoesOnQuietly, HearsNumber, KeepsLargest, SendsWithAck, WasSentUnder, endings_by_ack, largest_came}
 use Rattle.recovery_pair.specs.Rising.{AcksRise, RisesAbove}
 use Rattle.recovery_pair.specs.Tied.{Flows, IsOnWire}
-use Rattle.recovery_pair.proofs.GoingLaws.{no_acks, same_itself, uncarried_same}
-use Rattle.recovery_pair.proofs.TieLaws.{all_map, all_push, delivered_known, received_delivered}
+use Rattle.recovery_pair.proofs.GoingLaws.{all_map, no_acks, same_itself, uncarried_same}
+use Rattle.recovery_pair.proofs.TieLaws.{all_push, delivered_known, received_delivered}
 use Rattle.recovery_pair.proofs.TopLaws.{IsWithin, received_within, within_here}
 
 -- ---- the largest number of a frame

@@ -1,5 +1,5 @@
 -- Each step of an end keeps the promises, and the tie of the log. It is proved once, for the end that makes it.
-use Rattle.std.proofs.Common.{◌≡◌, ℕ, nat_le, ◌<◌, ◌≤◌, ◌⊎◌, inl, inr, Bool, true, false, true≢false, List, [], ◌∷◌, ◌++◌, length, get_or, ◌+◌, Option, None, Some, Result, Ok, refl, sym, ap, subst, ◌∙◌, arith}
+use Rattle.std.proofs.Common.{◌≡◌, ℕ, nat_le, ◌<◌, ◌≤◌, ◌⊎◌, inl, inr, Bool, true, false, true≢false, List, [], ◌∷◌, ◌++◌, length, get_or, ◌+◌, Option, None, Some, Result, Ok, Err, refl, sym, ap, subst, ◌∙◌, arith}
 use Rattle.std.specs.Prelude.{IfOk, map, option_map}
 use Rattle.std.specs.Global.{Vec}
 use Rattle.std.specs.List.{AllByRecursion}
@@ -11,7 +11,7 @@ use Rattle.recovery_base.specs.Units.{number_limit}
 use Rattle.recovery_events.specs.declared.event.Refusal.TheVariants.{NoMemory, NumberTooLarge, SpaceDiscarded}
 use Rattle.recovery_losses.specs.Frames.{IsInAckRanges, largest_of}
 use Rattle.recovery_paths.specs.declared.path_pair.PathName.TheVariants.{Current}
-use Rattle.recovery_history.specs.History.{History, begins, queue_model}
+use Rattle.recovery_history.specs.History.{History}
 use Rattle.recovery_history.specs.Promises.NewNumbers.{came_in, is_discarded, is_new}
 use Rattle.recovery_sender.specs.Promises.Lost.{elicits_by, sent_at}
 use Rattle.recovery_sender.specs.Senders.{state_in}
@@ -32,11 +32,12 @@ use Rattle.recovery_pair.specs.declared.steps.LocalStep.TheVariants.{Expire, Lat
 use Rattle.recovery_pair.specs.declared.steps.PairStep.{PairStep}
 use Rattle.recovery_pair.specs.declared.steps.PairStep.TheVariants.{Arrive, Local, Send}
 use Rattle.recovery_pair.specs.declared.steps.WirePacket.{WirePacket}
+use Rattle.recovery_pair.specs.Falls.{FallOnce, FallsAt, FallsByRecovery, controller_in}
 use Rattle.recovery_pair.specs.Frames.{IsSoundFrame}
 use Rattle.recovery_pair.specs.Logs.{IsAt, PairEvent, PairLog, LoggedPacket, ack_of, deliveries_of, is_eliciting, numbers_at, other_end, sends_of, time_sent, was_discarded, wire_of}
 use Rattle.recovery_pair.specs.Flights.{Numbers, counted_if, flight_of, no_numbers}
 use Rattle.recovery_pair.specs.Newly.{AcksFlight}
-use Rattle.recovery_pair.specs.Pasts.{AcksWithin, Continues, GivesSample, GoesOn, GoesOnQuietly, Endings, HasPast, HearsNumber, IsHeardBy, SampledBy, SendsWithAck, EndTurn, WereSentUnder, endings_by_ack, endings_by_fate, hearing, flight_in, packet_leaving, quiet}
+use Rattle.recovery_pair.specs.Pasts.{AcksWithin, Continues, GivesSample, GoesOn, GoesOnQuietly, Endings, HasPast, HearsNumber, IsHeardBy, SampledBy, SendsWithAck, EndTurn, WereSentUnder, endings_by_ack, endings_by_fate, hearing, flight_in, no_endings, packet_leaving, quiet}
 use Rattle.recovery_pair.specs.Permits.{FitsChecked}
 use Rattle.recovery_pair.specs.Promises.Arrivals.{ArrivesAsSent, Delivers, IsArrival, IsFateBy, IsFirstDelivery}
 use Rattle.recovery_pair.specs.Promises.DeliveredOnce.{AcksDelivered}
@@ -52,16 +53,18 @@ use Rattle.recovery_pair.specs.Promises.Threefold.{ServerSendsThreefold}
 use Rattle.recovery_pair.specs.Promises.Window.{SendsWithinWindow}
 use Rattle.recovery_pair.specs.Rising.{RisesAbove}
 use Rattle.recovery_pair.specs.Tied.{Flows, IsLogged, IsOnWire, IsTiedAt, Travels, sent_as}
-use Rattle.recovery_pair.specs.Turns.{HearTurn, HearsPacket, SendsPacket, TurnsAt, local_turn, reply_of}
+use Rattle.recovery_pair.specs.Turns.{FindsByTimer, HearTurn, HearsPacket, SendsPacket, TurnsAt, local_turn, reply_of}
+use Rattle.recovery_pair.proofs.AlongLaws.{beginning_of, past_after, went}
 use Rattle.recovery_pair.proofs.BoundLaws.{exceeds_by, within_on}
+use Rattle.recovery_pair.proofs.FallLaws.{arrived_falls, calm_falls, keeps_same, local_falls}
 use Rattle.recovery_pair.proofs.FlightLaws.{flight_counted}
 use Rattle.recovery_pair.proofs.LargestLaws.{largest_by}
-use Rattle.recovery_pair.proofs.GoingLaws.{quiet_none}
+use Rattle.recovery_pair.proofs.GoingLaws.{all_map, quiet_none}
 use Rattle.recovery_pair.proofs.LogLaws.{Adds, IsNoPacket, IsNotLocal, arriving_adds, arriving_adds_not, idle_adds, local_adds, local_adds_not, local_moves, logged_on, sending_adds, sending_adds_not}
 use Rattle.recovery_pair.proofs.QuietLaws.{same_quietly}
 use Rattle.recovery_pair.proofs.RisingLaws.{frame_largest, heard_top, largest_in_frame, rises_by, rises_on, rises_sent, rises_still, rises_there, some_frame}
 use Rattle.recovery_pair.proofs.TurnLaws.{sample_same}
-use Rattle.recovery_pair.proofs.TieLaws.{all_at, all_map, all_push, before_it, delivered_known, flows_kept, flows_sent, flows_taken, other_sends, other_takes, received_delivered, sending, sends_kept, sent_once, takes_kept, taking}
+use Rattle.recovery_pair.proofs.TieLaws.{all_at, all_push, before_it, delivered_known, flows_kept, flows_sent, flows_taken, other_sends, other_takes, received_delivered, sending, sends_kept, sent_once, takes_kept, taking}
 
 -- ---- ends
 
@@ -96,7 +99,8 @@ module _ {F Q R C K S M P : Type 0} {f : _} {c : _} {q : _} {m : _} {r : _} wher
       → List WirePacket → PairStep → Result PairAnswer SenderError → Sender F Q R C K S M P f c q m r
       → List WirePacket → Type 0
   StepKeepsAt end here there wire step answer after wire_after = (validated : Bool) (log : PairLog)
-      → IsTiedAt validated end log here there wire → KeepsExchange validated log (step, answer)
+      → IsTiedAt validated end log here there wire → (KeepsExchange validated log (step, answer)
+      × (FallsByRecovery c.words → FallsAt log (step, answer) end here after))
       × IsTiedAt validated end ((step, answer) ∷ log) after there wire_after
 
   -- of both
@@ -104,7 +108,8 @@ module _ {F Q R C K S M P : Type 0} {f : _} {c : _} {q : _} {m : _} {r : _} wher
       → PairStep → Result PairAnswer SenderError → Sender F Q R C K S M P f c q m r
       → Sender F Q R C K S M P f c q m r → List WirePacket → Type 0
   ExchangeKept client server wire step answer client_after server_after wire_after = (validated : Bool) (log : PairLog)
-      → IsTiedAt validated Client log client server wire → KeepsExchange validated log (step, answer)
+      → IsTiedAt validated Client log client server wire → (KeepsExchange validated log (step, answer)
+      × FallOnce log (step, answer) client server client_after server_after)
       × IsTiedAt validated Client ((step, answer) ∷ log) client_after server_after wire_after
 
   -- seen from the other end
@@ -136,7 +141,10 @@ module _ {F Q R C K S M P : Type 0} {f : _} {c : _} {q : _} {m : _} {r : _} wher
   by_turn Client Turns wire wire_after step answer each client server client_after server_after turns =
       subst (λ (one : Sender F Q R C K S M P f c q m r).
       ExchangeKept client server wire step answer client_after one wire_after) (sym turns.1)
-      (each client server client_after turns.0)
+      (λ validated log tied. (let kept = each client server client_after turns.0 validated log tied in (
+        (kept.0.0, λ falls. (kept.0.1 falls, inl (keeps_same c.words (controller_in server)))),
+        kept.1,
+      )))
   by_turn Server Turns wire wire_after step answer each client server client_after server_after turns =
       subst (λ (one : Sender F Q R C K S M P f c q m r).
       ExchangeKept client server wire step answer one server_after wire_after) (sym turns.1) by
@@ -144,8 +152,13 @@ module _ {F Q R C K S M P : Type 0} {f : _} {c : _} {q : _} {m : _} {r : _} wher
       by : ExchangeKept client server wire step answer client server_after wire_after
       by validated log tied =
           let both = each server client server_after turns.0 validated log
-          (turned validated Client log client server wire tied) in
-          (both.0, turned validated Server ((step, answer) ∷ log) server_after client wire_after both.1)
+          (turned validated Client log client server wire tied) in (
+            (both.0.0, λ falls. (inl (keeps_same c.words (controller_in client)), both.0.1 falls)),
+            turned validated Server ((step, answer) ∷ log) server_after client wire_after both.1,
+          )
+
+with_falls : {A B C : Type 0} → A × B → C → (A × C) × B
+with_falls kept falls = ((kept.0, falls), kept.1)
 
 -- ---- amplification
 
@@ -227,29 +240,12 @@ module _ {F Q R C K S M P : Type 0} {f : _} {c : _} {q : _} {m : _} {r : _} (end
     (adds_not : (log : PairLog) → Adds quiet (other_end end) (step, answer) log) (wire : List WirePacket)
     (here there after : Sender F Q R C K S M P f c q m r) (goes : Continues (GoesOn turn) here after)
     (validated : Bool) (log : PairLog) (tied : IsTiedAt validated end log here there wire) where
-  own_after : HasPast after
-  own_after =
-      let own = goes.from tied.own.config tied.own.start tied.own.random tied.own.past tied.own.came in
-      record {
-        config = tied.own.config;
-        start = tied.own.start;
-        random = tied.own.random;
-        past = own.0;
-        came = own.1;
-      }
-
   tied_still : IsTiedAt validated end ((step, answer) ∷ log) after there wire
   tied_still =
-      let own = goes.from tied.own.config tied.own.start tied.own.random tied.own.past tied.own.came in
+      let own = went tied.own goes in
       let event : PairEvent = (step, answer) in
       record {
-        own = record {
-          config = tied.own.config;
-          start = tied.own.start;
-          random = tied.own.random;
-          past = own.0;
-          came = own.1;
-        };
+        own = past_after tied.own goes;
         peer = tied.peer;
         out = flows_kept log (event ∷ log) end quiet tied.own.past own.0 tied.peer.past tied.peer.past
             (silent_sends event silent log end) (silent_takes event silent log (other_end end)) own.2.given refl
@@ -389,8 +385,7 @@ module _ {F Q R C K S M P : Type 0} {f : _} {c : _} {q : _} {m : _} {r : _} (end
   waited_by : ReportsDelay log
       (Send end packet.space now size, Ok (Sent packet.number items packet.eliciting window (ack_of packet)))
   waited_by = is.waited
-      ∙ ap (delay_at now) (largest_by (begins f.built c.words (queue_model q.contents q.words q.blank) tied.own.config
-      tied.own.start tied.own.random) tied.own.past (state_in here) tied.own.came packet.space
+      ∙ ap (delay_at now) (largest_by (beginning_of tied.own) tied.own.past (state_in here) tied.own.came packet.space
       ∙ tied.logged.largest packet.space)
 
   -- it fits into the window that is checked, by the log
@@ -399,8 +394,7 @@ module _ {F Q R C K S M P : Type 0} {f : _} {c : _} {q : _} {m : _} {r : _} (end
   fits_by None fits = tt
   fits_by (Some room) fits =
       let known = tied.logged.flight no_numbers in
-      let counted = flight_counted (begins f.built c.words (queue_model q.contents q.words q.blank) tied.own.config
-      tied.own.start tied.own.random) tied.own.past (state_in here) tied.own.came in
+      let counted = flight_counted (beginning_of tied.own) tied.own.past (state_in here) tied.own.came in
       added_fits _ _ _ size room known counted fits
 
   tied_sent : IsTiedAt validated end (sending log packet.space now size packet.number items packet.eliciting window
@@ -408,17 +402,11 @@ module _ {F Q R C K S M P : Type 0} {f : _} {c : _} {q : _} {m : _} {r : _} (end
       ∷ log) after there
       (wire ++ packet ∷ [])
   tied_sent =
-      let own = is.goes.from tied.own.config tied.own.start tied.own.random tied.own.past tied.own.came in
+      let own = went tied.own is.goes in
       let event : PairEvent = sending log packet.space now size packet.number items packet.eliciting window
       (ack_of packet) end in
       record {
-        own = record {
-          config = tied.own.config;
-          start = tied.own.start;
-          random = tied.own.random;
-          past = own.0;
-          came = own.1;
-        };
+        own = past_after tied.own is.goes;
         peer = tied.peer;
         out = out_sent log now size end tied.own.past own.0 tied.peer.past packet items window wire is.sender is.told
             is.sound
@@ -460,7 +448,7 @@ module _ {F Q R C K S M P : Type 0} {f : _} {c : _} {q : _} {m : _} {r : _} (end
   largest_by_log : largest_of packet.ranges.items
       ≡ option_map (λ received. received.0) (largest_new end packet.space log)
   largest_by_log =
-      let own = is.goes.from tied.own.config tied.own.start tied.own.random tied.own.past tied.own.came in
+      let own = went tied.own is.goes in
       subst (λ (received : Option (ℕ × ℕ)). largest_of packet.ranges.items ≡ option_map (λ it. it.0) received)
       (tied.logged.largest packet.space)
       (frame_largest packet.space tied.own.past packet.ranges.items is.sound own.2.acks own.2.whole
@@ -507,8 +495,11 @@ module _ {F Q R C K S M P : Type 0} {f : _} {c : _} {q : _} {m : _} {r : _} wher
       → StepKeepsAt end here there wire (Send end at now size) (Ok (Sent packet.number items packet.eliciting window
       (ack_of packet)))
       after
-      (wire ++ packet ∷ [])) same (λ is validated log tied.
-      sent_step end now size packet items window wire here there after is validated log tied)
+      (wire ++ packet ∷ [])) same (λ is validated log tied. with_falls
+      (sent_step end now size packet items window wire here there after is validated log tied)
+      (λ falls. calm_falls _ _ _ _ _ _ _ tied falls _
+      (SendsWithAck size (counted_if packet.eliciting size) packet.eliciting packet.space packet.number
+      packet.ranges.items now) (λ past after goes. goes.sends.goes.congested) is.goes))
 
   pub send_turn : (end : End) (space : SpaceId) (now size : ℕ) (packet : WirePacket) (items : Vec ℕ)
       (window : Option ℕ)
@@ -663,7 +654,7 @@ module _ {F Q R C K S M P : Type 0} {f : _} {c : _} {q : _} {m : _} {r : _} (at 
     own_went : (past : History Q S M P) × HearsNumber now packet.size packet.space packet.number (reply_of fate)
         (endings_by_fate packet.space fate) tied.own.past past
     own_went =
-        let own = is.goes.from tied.own.config tied.own.start tied.own.random tied.own.past tied.own.came in
+        let own = went tied.own is.goes in
         (own.0, own.2)
 
     fated : IsFateBy (was_discarded (other_end from) packet.space log)
@@ -721,15 +712,9 @@ module _ {F Q R C K S M P : Type 0} {f : _} {c : _} {q : _} {m : _} {r : _} (at 
 
     tied_new : IsTiedAt validated (other_end from) (event ∷ log) after there wire
     tied_new =
-        let own = is.goes.from tied.own.config tied.own.start tied.own.random tied.own.past tied.own.came in
+        let own = went tied.own is.goes in
         record {
-          own = record {
-            config = tied.own.config;
-            start = tied.own.start;
-            random = tied.own.random;
-            past = own.0;
-            came = own.1;
-          };
+          own = past_after tied.own is.goes;
           peer = tied.peer;
           out = flows_kept log (event ∷ log) (other_end from) quiet tied.own.past own.0 tied.peer.past tied.peer.past
               (λ space n. refl)
@@ -776,7 +761,7 @@ module _ {F Q R C K S M P : Type 0} {f : _} {c : _} {q : _} {m : _} {r : _} (at 
     pub new_step : KeepsExchange validated log event
         × IsTiedAt validated (other_end from) (event ∷ log) after there wire
     new_step =
-        let own = is.goes.from tied.own.config tied.own.start tied.own.random tied.own.past tied.own.came in
+        let own = went tied.own is.goes in
         let ranges = packet.ranges.items in (
           record {
             honest = is.takes.honest on_wire.sound tied.own.config tied.own.start tied.own.random tied.own.past
@@ -807,14 +792,21 @@ module _ {F Q R C K S M P : Type 0} {f : _} {c : _} {q : _} {m : _} {r : _} (at 
       → HearsPacket here after packet now fate
       → StepKeepsAt (other_end from) here there wire (Arrive at now)
       (Ok (Arrived (other_end from) packet.space packet.number packet.size fate)) after wire
-  arrive_step from sender (New items acked) here there after is validated log tied =
-      new_step at now from packet wire within found sender here there after validated log tied items acked is
-  arrive_step from sender Duplicate here there after is validated log tied =
-      old_step at now from packet wire within found sender here there after validated log tied Duplicate is tt refl
-      (λ space n never. true≢false (sym never)) tt tt
-  arrive_step from sender (Dropped refusal) here there after is validated log tied =
-      old_step at now from packet wire within found sender here there after validated log tied (Dropped refusal) is tt
-      refl (λ space n never. true≢false (sym never)) tt tt
+  arrive_step from sender (New items acked) here there after is validated log tied = with_falls
+      (new_step at now from packet wire within found sender here there after validated log tied items acked is)
+      (λ falls. arrived_falls _ _ _ _ _ _ _ tied falls _ _ _ _ _ _ _ is.takes.finds)
+  arrive_step from sender Duplicate here there after is validated log tied = with_falls
+      (old_step at now from packet wire within found sender here there after validated log tied Duplicate is tt refl
+      (λ space n never. true≢false (sym never)) tt tt)
+      (λ falls. calm_falls _ _ _ _ _ _ _ tied falls _
+      (HearsNumber now packet.size packet.space packet.number (Ok false) no_endings)
+      (λ past after goes. goes.goes.congested) is.goes)
+  arrive_step from sender (Dropped refusal) here there after is validated log tied = with_falls
+      (old_step at now from packet wire within found sender here there after validated log tied (Dropped refusal) is tt
+      refl (λ space n never. true≢false (sym never)) tt tt)
+      (λ falls. calm_falls _ _ _ _ _ _ _ tied falls _
+      (HearsNumber now packet.size packet.space packet.number (Err refusal) no_endings)
+      (λ past after goes. goes.goes.congested) is.goes)
 
   -- a packet arrives at the end that did not send it
   pub arrives_at : (to : End) (fate : Fate) (client server client_after server_after : Sender F Q R C K S M P f c q m r)
@@ -860,25 +852,38 @@ local_arrives log end step result none = tt
 module _ {F Q R C K S M P : Type 0} {f : _} {c : _} {q : _} {m : _} {r : _} where
   local_step : (end : End) (step : LocalStep) (result : Result PairAnswer SenderError) (wire : List WirePacket)
       → IfOk result (IsLocalAnswer step) → (here there after : Sender F Q R C K S M P f c q m r)
-      → Continues (GoesOn (local_turn step result)) here after
+      → Continues (GoesOn (local_turn step result)) here after × FindsByTimer step result here after
       → StepKeepsAt end here there wire (Local end step) result after wire
-  local_step end step result wire answer here there after goes validated log tied =
+  local_step end step result wire answer here there after (goes, finds) validated log tied =
       let none = local_answer end step result answer in
-      silent_step end (Local end step) result (local_turn step result) (none_silent (Local end step, result) none)
+      with_falls (silent_step end (Local end step) result (local_turn step result) (none_silent (Local end step, result)
+      none)
       (local_moves log step result).heard (local_moves log step result).carries
       (local_moves log step result).unacked (λ log. local_adds log end step result none)
       (λ log. local_adds_not log end step result none) wire here there after goes validated log tied
-      (local_arrives log end step result none)
+      (local_arrives log end step result none))
+      (λ falls. local_falls _ _ _ _ _ _ _ tied falls step result goes finds)
 
   pub local_step_at : (end : End) (step : LocalStep) (result : Result PairAnswer SenderError)
       (client server client_after server_after : Sender F Q R C K S M P f c q m r) (wire : List WirePacket)
       → TurnsAt end (λ (old new : Sender F Q R C K S M P f c q m r). Continues (GoesOn (local_turn step result)) old
-      new) client server client_after server_after → IfOk result (IsLocalAnswer step)
+      new) client server client_after server_after
+      → TurnsAt end (FindsByTimer step result) client server client_after server_after
+      → IfOk result (IsLocalAnswer step)
       → ExchangeKept client server wire (Local end step) result client_after server_after wire
-  local_step_at end step result client server client_after server_after wire turns answer =
+  local_step_at end step result client server client_after server_after wire turns finds answer =
       by_turn end
-      (λ (old new : Sender F Q R C K S M P f c q m r). Continues (GoesOn (local_turn step result)) old new) wire wire
-      (Local end step) result (local_step end step result wire answer) client server client_after server_after turns
+      (λ (old new : Sender F Q R C K S M P f c q m r). Continues (GoesOn (local_turn step result)) old new
+      × FindsByTimer step result old new) wire wire
+      (Local end step) result (local_step end step result wire answer) client server client_after server_after
+      (both_turns end _ _ turns finds)
+    where
+      both_turns : (end : End) (One Two : Sender F Q R C K S M P f c q m r → Sender F Q R C K S M P f c q m r → Type 0)
+          → TurnsAt end One client server client_after server_after
+          → TurnsAt end Two client server client_after server_after
+          → TurnsAt end (λ old new. One old new × Two old new) client server client_after server_after
+      both_turns Client One Two one two = ((one.0, two.0), one.1)
+      both_turns Server One Two one two = ((one.0, two.0), one.1)
 
   -- ---- nothing is sent, and nothing arrives
 
@@ -888,10 +893,12 @@ module _ {F Q R C K S M P : Type 0} {f : _} {c : _} {q : _} {m : _} {r : _} wher
       → (here there after : Sender F Q R C K S M P f c q m r) → Continues GoesOnQuietly here after
       → StepKeepsAt end here there wire step answer after wire
   quiet_step end step answer wire none other arrives here there after goes validated log tied =
-      silent_step end step answer quiet (none_silent (step, answer) none) refl refl
+      with_falls (silent_step end step answer quiet (none_silent (step, answer) none) refl refl
       (λ space n never. true≢false (sym never))
       (λ log. idle_adds log end step answer none other) (λ log. idle_adds log (other_end end) step answer none other)
-      wire here there after goes validated log tied (arrives log tied.listed)
+      wire here there after goes validated log tied (arrives log tied.listed))
+      (λ falls. calm_falls _ _ _ _ _ _ _ tied falls _ GoesOnQuietly
+      (λ past after goes. goes.congested) goes)
 
   -- an end sends nothing
   pub held_turn : (end : End) (step : PairStep) (answer : Result PairAnswer SenderError)

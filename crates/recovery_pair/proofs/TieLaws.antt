@@ -26,11 +26,6 @@ use Rattle.recovery_pair.proofs.GoingLaws.{came_on, itself, not_new, same_itself
 
 -- ---- lists
 
-pub all_map : {T : Type 0} (P Q : T → Type 0) → ((one : T) → P one → Q one) → (all : List T) → AllByRecursion P all
-    → AllByRecursion Q all
-all_map P Q to [] each = tt
-all_map P Q to (one ∷ all) each = (to one each.0, all_map P Q to all each.1)
-
 pub all_push : {T : Type 0} (P : T → Type 0) (all : List T) (last : T) → AllByRecursion P all → P last
     → AllByRecursion P (all ++ last ∷ [])
 all_push P [] last each here = (here, tt)
@@ -147,10 +142,6 @@ module _ (log : PairLog) (there : SpaceId) (now size m : ℕ) (items : Vec ℕ) 
   other_sends Client space n = refl
   other_sends Server space n = refl
 
-  pub sending_delivers : (end at : End) (space : SpaceId) (n : ℕ)
-      → deliveries_of at space n (sending end ∷ log) ≡ deliveries_of at space n log
-  sending_delivers end at space n = refl
-
   module _ {Q S M P : Type 0} (end : End) (past past_after peer : History Q S M P)
       (counted : ℕ) (largest : Option ℕ)
       (sends : SendsNumber size counted eliciting there m largest now past past_after)
@@ -224,10 +215,6 @@ module _ (log : PairLog) (at now : ℕ) (there : SpaceId) (m size : ℕ) (items 
       → deliveries_of (other_end to) space n (taking to ∷ log) ≡ deliveries_of (other_end to) space n log
   other_takes Client space n = refl
   other_takes Server space n = refl
-
-  pub taking_sends : (to from : End) (space : SpaceId) (n : ℕ)
-      → sends_of from space n (taking to ∷ log) ≡ sends_of from space n log
-  taking_sends to from space n = refl
 
   -- `from` sent it, and the other end hears it
   module _ {Q S M P : Type 0} (from : End) (past peer peer_after : History Q S M P)

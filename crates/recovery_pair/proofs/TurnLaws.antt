@@ -1,5 +1,5 @@
 -- What an end does with its sender at each step, from its calls.
-use Rattle.std.proofs.Common.{◌≡◌, ℕ, ◌+◌, ◌≤◌, ◌&&◌, Bool, true, false, List, Option, None, Some, Result, Ok, refl, sym, subst, arith, ◌∙◌}
+use Rattle.std.proofs.Common.{◌≡◌, ℕ, ◌+◌, ◌≤◌, ◌&&◌, ◌⊎◌, inl, inr, Bool, true, false, List, Option, None, Some, Result, Ok, refl, sym, subst, arith, ◌∙◌}
 use Rattle.std.proofs.Math.Path.{fun_ext}
 use Rattle.std.specs.Prelude.{not, if◌then◌else◌}
 use Rattle.std.specs.Global.{Vec}
@@ -22,7 +22,10 @@ use Rattle.recovery_pair.specs.declared.steps.Fate.TheVariants.{New}
 use Rattle.recovery_pair.specs.declared.steps.WirePacket.{WirePacket}
 use Rattle.recovery_pair.specs.Frames.{IsFrameFor}
 use Rattle.recovery_pair.specs.Flights.{counted_if}
-use Rattle.recovery_pair.specs.Pasts.{AcksWithin, Continues, Endings, GivesSample, GoesOn, GoesOnQuietly, HearsNumber, NoAccusation, SampledBy, SendsNumber, arriving, ending, endings_by_ack, leaving, no_endings, quiet}
+use Rattle.recovery_pair.specs.Pasts.{AcksWithin, Continues, Endings, GivesSample, GoesOn, GoesOnQuietly, HearsNumber, NoAccusation, SampledBy, SendsNumber, arriving, ending, endings_by_ack, leaving, no_endings, quiet, with_congestion}
+use Rattle.recovery_pair.specs.Carried.{lost_by_ack}
+use Rattle.recovery_pair.specs.Falls.{FindsWithCause, WasLost}
+use Rattle.recovery_pair.specs.LeastWindows.{persists_by_ack}
 use Rattle.recovery_pair.specs.Newly.{AcksFlightBy}
 use Rattle.recovery_pair.specs.Permits.{FitsChecked}
 use Rattle.recovery_pair.specs.Promises.Framed.{HasFrame}
@@ -31,7 +34,7 @@ use Rattle.recovery_pair.specs.Turns.{FitsIfPermitted, HearsPacket, PacksPacket,
 use Rattle.recovery_pair.proofs.FrameLaws.{pending_received, received_pending}
 use Rattle.recovery_pair.proofs.GoingLaws.{arrives_then_hears, hears_then_ends, hears_then_quiet, leaves_then_sends, left_quietly, quiet_then, quiet_then_sends, sends_then_quiet}
 use Rattle.recovery_pair.proofs.NewlyLaws.{flight_before}
-use Rattle.recovery_pair.proofs.QuietLaws.{joined}
+use Rattle.recovery_pair.proofs.AlongLaws.{joined}
 
 -- a sample by other words for what was sent that are the same
 pub sample_same : (one other : ℕ → ℕ) (elicits eliciting : ℕ → Bool) (now : ℕ) (largest : Option ℕ)
@@ -166,22 +169,22 @@ module _ {F Q R C K S M P : Type 0} {f : _} {c : _} {q : _} {m : _} {r : _} wher
       packet.ranges.items heard acked
       → AcksWithin packet.ranges.items acked → HasFrame (largest_of packet.ranges.items) acked
       → SampledBy packet.space now packet.ranges.items heard acked
+      → FindsWithCause (persists_by_ack acked) (lost_by_ack packet.space acked) now
+      (λ congests. GoesOn (ending (with_congestion congests (endings_by_ack packet.space acked)))) heard taken
       → AcksFlightBy packet.space packet.ranges.items heard acked
       → Continues GoesOnQuietly taken new
       → HearsPacket old new packet now (New items acked)
   heard_turn now packet items acked old counted heard taken new told counts hears takes honest within framed samples
-      newly plans =
-      let came = came_turn now packet.size packet.space packet.number (Ok true) old counted heard counts hears in
-      let ends : Endings = endings_by_ack packet.space acked in
+      finds newly plans =
       record {
-        goes = joined (HearsNumber now packet.size packet.space packet.number (Ok true) ends) GoesOnQuietly
-            (HearsNumber now packet.size packet.space packet.number (Ok true) ends)
-            (hears_then_quiet now packet.size packet.space packet.number (Ok true) ends) old taken new
-            (joined (HearsNumber now packet.size packet.space packet.number (Ok true) no_endings) (GoesOn (ending ends))
-            (HearsNumber now packet.size packet.space packet.number (Ok true) ends)
-            (hears_then_ends now packet.size packet.space packet.number (Ok true) ends) old heard taken came takes)
-            plans;
+        goes = goes_by (endings_by_ack packet.space acked) takes;
         takes = record {
+          finds = record {
+            congests = finds.congests;
+            goes = goes_by (with_congestion finds.congests (endings_by_ack packet.space acked)) finds.goes;
+            at = finds.at;
+            cause = λ found sent is. caused sent (finds.cause found sent is);
+          };
           told = told;
           honest = λ sound config start random past at were. (
               let one = came.from config start random past at in
@@ -204,3 +207,27 @@ module _ {F Q R C K S M P : Type 0} {f : _} {c : _} {q : _} {m : _} {r : _} wher
               (newly config start random one.0 one.1));
         };
       }
+    where
+      came : Continues (HearsNumber now packet.size packet.space packet.number (Ok true) no_endings) old heard
+      came = came_turn now packet.size packet.space packet.number (Ok true) old counted heard counts hears
+
+      goes_by : (ends : Endings) → Continues (GoesOn (ending ends)) heard taken
+          → Continues (HearsNumber now packet.size packet.space packet.number (Ok true) ends) old new
+      goes_by ends takes =
+          let Hears = HearsNumber now packet.size packet.space packet.number (Ok true) in
+          joined (Hears ends) GoesOnQuietly (Hears ends)
+          (hears_then_quiet now packet.size packet.space packet.number (Ok true) ends) old taken new
+          (joined (Hears no_endings) (GoesOn (ending ends)) (Hears ends)
+          (hears_then_ends now packet.size packet.space packet.number (Ok true) ends) old heard taken came takes) plans
+
+      caused : (sent : ℕ) → (persists_by_ack acked ≡ true) ⊎ WasLost heard (lost_by_ack packet.space acked) sent
+          → (persists_by_ack acked ≡ true) ⊎ WasLost old (lost_by_ack packet.space acked) sent
+      caused sent (inl persists) = inl persists
+      caused sent (inr (space, n, one, time)) = inr (
+        space,
+        n,
+        one,
+        λ config start random past at. (
+            let went = came.from config start random past at in
+            time config start random went.0 went.1 ∙ went.2.goes.timed space n),
+      )

@@ -1,5 +1,5 @@
 -- What waits at an end, step by step.
-use Rattle.std.proofs.Common.{◌≡◌, ℕ, ◌+◌, ◌<◌, ◌≤◌, Bool, true, false, List, [], ◌∷◌, ◌++◌, length, get_or, drop, zero, suc, sym, ap, subst, ◌∙◌, arith}
+use Rattle.std.proofs.Common.{◌≡◌, ℕ, ◌+◌, ◌<◌, ◌≤◌, true, List, [], ◌∷◌, ◌++◌, length, get_or, zero, suc, sym, ap, subst, arith}
 use Rattle.std.specs.List.{remove}
 use Rattle.recovery_base.specs.declared.below.SpaceId.{SpaceId}
 use Rattle.recovery_base.specs.Spaces.{same_space}
@@ -93,8 +93,3 @@ lost_then there items told old between new loses same is measure space =
     ≤ part (same_space there space) (measure list) + waiting_in measure space new) (sym is)
     (subst (λ (all : List Waiting). waiting_in measure space old
     ≤ part (same_space there space) (measure items) + waiting_in measure space all) (sym same) (loses measure space))
-
-pub still_kept : (old between new : List Waiting) → new ≡ between → LosesNone old between → LosesNone old new
-still_kept old between new same keeps measure space =
-    subst (λ (all : List Waiting). waiting_in measure space old ≤ waiting_in measure space all) (sym same)
-    (keeps measure space)

@@ -1,4 +1,7 @@
+pub mod AddressKnown
 pub mod Carried
+pub mod Congested
+pub mod Falls
 pub mod Flights
 pub mod Frames
 pub mod LeastWindows
@@ -12,5 +15,6 @@ pub mod Rising
 pub mod Runs
 pub mod Tied
 pub mod Timed
+pub mod Trips
 pub mod Turns
 pub mod Waits

@@ -1,13 +1,14 @@
--- No deadlock (RFC 9002, 6.2 and 6.2.2.1): an endpoint goes on even if nothing arrives. Once its peer's address is
--- validated, its loss detection timer is set while bytes are in flight. The amplification limit holds no datagram back.
--- The window does only while that timer is set, unless the datagram is larger than the window. The timer is also set
--- while a client does not know that the server validated its address.
+-- No deadlock (RFC 9002, 6.2 and 6.2.2.1). An endpoint may probe if its peer's address is validated, and its handshake
+-- is confirmed or there are keys for a probe. Then its loss detection timer is set while bytes are in flight. The
+-- window holds a datagram back only while that timer is set, unless the datagram is larger than the window. The
+-- amplification limit holds none back. The timer is also set while a client does not know that the server validated its
+-- address. So in a handshake one of the two endpoints has its timer set, while the amplification limit holds back the
+-- server (RFC 9000, 8.1).
 use Rattle.std.specs.Prelude.{◌≡◌, ◌≢◌, ℕ, ◌<◌, ◌≤◌, ◌⊎◌, ◌∷◌, ◌&&◌, not, Bool, true, false, List, None, Result, Ok, if◌then◌else◌}
 use Rattle.recovery_base.specs.declared.below.SpaceId.{SpaceId}
 use Rattle.recovery_base.specs.declared.below.SpaceId.TheVariants.{Handshake, Initial}
 use Rattle.recovery_base.specs.declared.timer.Timer.TheVariants.{LossDetection}
 use Rattle.recovery_base.specs.Timers.{moment}
-use Rattle.recovery_losses.specs.Variables.{is_address_validated}
 use Rattle.recovery_sender.specs.Calls.{window_of}
 use Rattle.recovery_sender.specs.Senders.{state_in}
 use Rattle.recovery_sender.specs.declared.sender.Sender.{Sender}
@@ -22,51 +23,81 @@ use Rattle.recovery_pair.specs.declared.steps.PairAnswer.TheVariants.{Held}
 use Rattle.recovery_pair.specs.declared.steps.PairStep.{PairStep}
 use Rattle.recovery_pair.specs.declared.steps.PairStep.TheVariants.{Send}
 use Rattle.recovery_pair.specs.declared.steps.WirePacket.{WirePacket}
+use Rattle.recovery_pair.specs.AddressKnown.{KnowsWithCause, before_last, has_received, known_at}
 use Rattle.recovery_pair.specs.Flights.{flight}
 use Rattle.recovery_pair.specs.Logs.{PairEvent, PairLog, has_validated, was_discarded}
 use Rattle.recovery_pair.specs.Tied.{IsTied, validated_first}
-use Rattle.recovery_pair.specs.Timed.{HaveTimersByEvents}
+use Rattle.recovery_pair.specs.Timed.{AreTimedAs}
+
+module _ (log : PairLog) (end : End) where
+  -- the space of a probe against a deadlock (RFC 9002, 6.2.2.1)
+  abbrev pub deadlock_space : SpaceId
+  deadlock_space =
+      if (known_at end log).keys && not (was_discarded end Handshake log) then Handshake else Initial
+
+  -- there are keys for this probe
+  abbrev pub HasProbeKeys : Type 0
+  HasProbeKeys = was_discarded end deadlock_space log ≡ false
+
+module _ (validated : Bool) (log : PairLog) where
+  -- the address of its peer is validated
+  abbrev pub HasValidated : End → Type 0
+  HasValidated end = has_validated end (validated_first end validated) log ≡ true
+
+  -- The address of its peer is validated. The handshake is confirmed, or there are keys for a probe against a
+  -- deadlock.
+  pub record MayProbe (end : End) : Type 0 where
+    pub address : HasValidated end
+    pub keys : ((known_at end log).confirmed ≡ true) ⊎ HasProbeKeys log end
+
+  -- what the callers do in a handshake
+  pub record FollowsHandshake : Type 0 where
+    -- the server validates the client's address by the step after that by which it received a Handshake packet (RFC
+    -- 9000, 8.1)
+    pub validates : has_received Server Handshake (before_last log) ≡ true → HasValidated Server
+    -- the handshake of the client is confirmed only after that (RFC 9001, 4.1.2)
+    pub confirms : (known_at Client log).confirmed ≡ true → HasValidated Server
+    -- until the handshake is confirmed there are keys for a probe against a deadlock (RFC 9001, 4.9)
+    pub keys : (end : End) → ((known_at end log).confirmed ≡ true) ⊎ HasProbeKeys log end
 
 module _ {F Q R C K S M P : Type 0} {f : _} {c : _} {q : _} {m : _} {r : _} where
   abbrev pub HasTimer : Sender F Q R C K S M P f c q m r → Type 0
   HasTimer sender = moment LossDetection (state_in sender).timers ≢ None
 
-  module _ (log : PairLog) (end : End) where
-    -- the space of a probe against a deadlock (RFC 9002, 6.2.2.1)
-    abbrev pub deadlock_space_in : Sender F Q R C K S M P f c q m r → SpaceId
-    deadlock_space_in sender = if sender.variables.has_handshake_keys && not (was_discarded end Handshake log)
-        then Handshake else Initial
+  module _ (validated : Bool) (log : PairLog) where
+    module _ (end : End) where
+      -- by the steps and answers so far
+      pub record IsTimed (sender : Sender F Q R C K S M P f c q m r) : Type 0 where
+        -- its timer is set while bytes are in flight
+        pub in_flight : MayProbe validated log end → 0 < flight end log → HasTimer sender
+        -- and at a client that does not know its own address validated
+        pub unknown : HasValidated validated log end → HasProbeKeys log end → (known_at end log).address ≡ false
+            → HasTimer sender
 
-    -- there are keys for this probe
-    abbrev pub HasProbeKeys : Sender F Q R C K S M P f c q m r → Type 0
-    HasProbeKeys sender = was_discarded end (deadlock_space_in sender) log ≡ false
+      -- a datagram of this size is held back by the window only while the timer is set, and by the amplification limit
+      -- only while the address of the peer is not validated
+      abbrev pub IsHeldWithCause : ℕ → Transmission → Sender F Q R C K S M P f c q m r
+          → Sender F Q R C K S M P f c q m r → Type 0
+      IsHeldWithCause size Blocked old new = HasValidated validated log end → ⊥
+      IsHeldWithCause size Full old new =
+          MayProbe validated log end → size ≤ window_of c.words (state_in old) → HasTimer new
+      IsHeldWithCause size held old new = Unit {0}
 
-  module _ (validated : Bool) (log : PairLog) (end : End) where
-    -- The address of its peer is validated. The handshake is confirmed, or there are keys for a probe against a
-    -- deadlock.
-    pub record MayProbe (sender : Sender F Q R C K S M P f c q m r) : Type 0 where
-      pub address : has_validated end (validated_first end validated) log ≡ true
-      pub keys : (sender.variables.is_handshake_confirmed ≡ true) ⊎ HasProbeKeys log end sender
+    module _ (client server : Sender F Q R C K S M P f c q m r) where
+      abbrev pub AreTimed : Type 0
+      AreTimed = IsTimed Client client × IsTimed Server server
 
-    -- by the steps and answers so far
-    pub record IsTimed (sender : Sender F Q R C K S M P f c q m r) : Type 0 where
-      -- its timer is set while bytes are in flight
-      pub in_flight : MayProbe sender → 0 < flight end log → HasTimer sender
-      -- and at a client that does not know its own address validated
-      pub unknown : has_validated end (validated_first end validated) log ≡ true → HasProbeKeys log end sender
-          → is_address_validated sender.variables ≡ false → HasTimer sender
+      -- no deadlock of both
+      pub record AreNotStuck : Type 0 where
+        -- the client's timer is set until the server validates its address
+        pub unvalidated : (HasValidated validated log Server → ⊥) → HasTimer client
+        -- while bytes are in flight, the timer of an endpoint is set that the amplification limit does not hold back
+        pub in_flight : (end : End) → 0 < flight end log
+            → HasTimer client ⊎ HasValidated validated log Server × HasTimer server
 
-    -- a datagram of this size is held back by the window only while the timer is set, and never by the amplification
-    -- limit
-    abbrev pub IsHeldWithCause : ℕ → Transmission → Sender F Q R C K S M P f c q m r
-        → Sender F Q R C K S M P f c q m r → Type 0
-    IsHeldWithCause size Blocked old new = MayProbe old → ⊥
-    IsHeldWithCause size Full old new = MayProbe new → size ≤ window_of c.words (state_in old) → HasTimer new
-    IsHeldWithCause size held old new = Unit {0}
-
-  abbrev pub AreTimed : Bool → PairLog → Sender F Q R C K S M P f c q m r → Sender F Q R C K S M P f c q m r → Type 0
-  AreTimed validated log client server =
-      IsTimed validated log Client client × IsTimed validated log Server server
+      -- if the callers follow the handshake; and what the client knows has a cause
+      abbrev pub AreNeverStuck : Type 0
+      AreNeverStuck = KnowsWithCause log × (FollowsHandshake validated log → AreNotStuck)
 
   module _ (client server client_after server_after : Sender F Q R C K S M P f c q m r) where
     -- of one endpoint, before and after a step
@@ -85,11 +116,14 @@ module _ {F Q R C K S M : Type 0} {f : _} {c : _} {q : _} {m : _} {r : _}
     (client_waits server_waits : List Waiting) where
   abbrev pub IfTied : (Bool → PairLog → Type 0) → Type 0
   IfTied Holds = (validated : Bool) (log : PairLog)
-      → IsTied validated log client server wire client_waits server_waits → HaveTimersByEvents client server
-      → Holds validated log
+      → IsTied validated log client server wire client_waits server_waits
+      → AreTimedAs (λ end. known_at end log) client server → Holds validated log
 
-  abbrev pub NeverStuck : PairStep → Result PairAnswer SenderError → Sender F Q R C K S M (List ℕ) f c q m r
-      → Sender F Q R C K S M (List ℕ) f c q m r → Type 0
-  NeverStuck step answer client_after server_after = IfTied (λ validated log.
-      AreTimed validated ((step, answer) ∷ log) client_after server_after
-      × HoldsWithCause client server client_after server_after validated log (step, answer))
+  -- each endpoint by itself, then both
+  pub record NeverStuck (step : PairStep) (answer : Result PairAnswer SenderError)
+      (client_after server_after : Sender F Q R C K S M (List ℕ) f c q m r) : Type 0 where
+    pub timed : IfTied (λ validated log. AreTimed validated ((step, answer) ∷ log) client_after server_after)
+    pub held : IfTied (λ validated log.
+        HoldsWithCause client server client_after server_after validated log (step, answer))
+    pub both : IfTied (λ validated log. KnowsWithCause log
+        → AreNeverStuck validated ((step, answer) ∷ log) client_after server_after)

@@ -32,6 +32,7 @@ use Rattle.recovery_pair.specs.declared.steps.AckOutcome.{AckOutcome}
 use Rattle.recovery_pair.specs.declared.steps.AckOutcome.TheVariants.{Taken}
 use Rattle.recovery_pair.specs.declared.steps.Fate.{Fate}
 use Rattle.recovery_pair.specs.declared.steps.Fate.TheVariants as fates
+use Rattle.recovery_pair.specs.Congested.{AddsCongestion, Congestions, any_congestion, no_congestion}
 use Rattle.recovery_pair.specs.Flights.{Numbers, acked_by, counted_if, ends_by_ack, no_numbers}
 use Rattle.recovery_pair.specs.Frames.{IsSoundFrame}
 use Rattle.recovery_pair.specs.Promises.NeverAccused.{IsSpared}
@@ -63,11 +64,14 @@ pub record EndTurn : Type 0 where
   pub acks : Numbers
   -- a packet is sent: its space, its number, when, and whether it is ack-eliciting
   pub sends : Option (SpaceId × ℕ × ℕ × Bool)
+  -- no other congestion is found
+  pub congests : Congestions
 
--- the packets that end, and those of them that are acknowledged
+-- the packets that end, those of them that are acknowledged, and the congestion that may be found
 pub record Endings : Type 0 where
   pub gone : Numbers
   pub acked : Numbers
+  pub congests : Congestions
 
 abbrev pub ending : Endings → EndTurn
 ending endings = record {
@@ -83,18 +87,24 @@ ending endings = record {
   carries = None;
   acks = endings.acked;
   sends = None;
+  congests = endings.congests;
 }
+
+-- with other congestion
+abbrev pub with_congestion : Congestions → Endings → Endings
+with_congestion congests endings = record endings { congests = congests }
 
 -- none of them is acknowledged
 abbrev pub losing : Numbers → Endings
-losing gone = record { gone = gone; acked = no_numbers }
+losing gone = record { gone = gone; acked = no_numbers; congests = any_congestion }
 
 abbrev pub no_endings : Endings
-no_endings = losing no_numbers
+no_endings = with_congestion no_congestion (losing no_numbers)
 
 -- the endings of an ACK frame, and of a packet that arrives
 abbrev pub endings_by_ack : SpaceId → AckOutcome → Endings
-endings_by_ack there outcome = record { gone = ends_by_ack there outcome; acked = acked_by there outcome }
+endings_by_ack there outcome =
+    record { gone = ends_by_ack there outcome; acked = acked_by there outcome; congests = any_congestion }
 
 abbrev pub endings_by_fate : SpaceId → Fate → Endings
 endings_by_fate there (fates.New items acked) = endings_by_ack there acked
@@ -255,6 +265,7 @@ module _ {Q S M P : Type 0} where
     pub topped : (space : SpaceId) → AcksBelow turn.acks space past after → KeepsLargest space past
         → KeepsLargest space after
     pub silent : silent_bytes after ≤ silent_bytes past
+    pub congested : AddsCongestion turn.congests past after
 
   abbrev pub GoesOnQuietly : History Q S M P → History Q S M P → Type 0
   GoesOnQuietly = GoesOn quiet

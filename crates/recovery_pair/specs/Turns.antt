@@ -23,12 +23,15 @@ use Rattle.recovery_pair.specs.declared.steps.LocalStep.TheVariants as local
 use Rattle.recovery_pair.specs.declared.steps.PairAnswer.{PairAnswer}
 use Rattle.recovery_pair.specs.declared.steps.PairAnswer.TheVariants as answer
 use Rattle.recovery_pair.specs.declared.steps.WirePacket.{WirePacket}
+use Rattle.recovery_pair.specs.Carried.{lost_by_ack, lost_by_local}
+use Rattle.recovery_pair.specs.Falls.{FindsWithCause}
 use Rattle.recovery_pair.specs.Flights.{counted_if, ends_by_timer}
 use Rattle.recovery_pair.specs.Frames.{IsSoundFrame}
+use Rattle.recovery_pair.specs.LeastWindows.{persists_by_ack, persists_by_timer}
 use Rattle.recovery_pair.specs.Permits.{FitsChecked, window_checked}
 use Rattle.recovery_pair.specs.Promises.Framed.{HasFrame}
 use Rattle.recovery_pair.specs.Newly.{AcksFlightBy}
-use Rattle.recovery_pair.specs.Pasts.{AcksWithin, Continues, GoesOn, GoesOnQuietly, HearsNumber, NoAccusation, SampledBy, SendsNumber, SendsWithAck, EndTurn, discarding, ending, endings_by_fate, leaving, losing, quiet, validating}
+use Rattle.recovery_pair.specs.Pasts.{AcksWithin, Continues, GoesOn, GoesOnQuietly, HearsNumber, NoAccusation, SampledBy, SendsNumber, SendsWithAck, EndTurn, discarding, ending, endings_by_ack, endings_by_fate, leaving, losing, quiet, validating, with_congestion}
 
 -- a call that may fail
 abbrev pub TriesTurn : {F Q R C K S M P : Type 0} {f : _} {c : _} {q : _} {m : _} {r : _} → EndTurn
@@ -52,6 +55,14 @@ local_turn (local.Discard space now) answer = if_done (discarding space) answer
 local_turn local.AddressValidated answer = if_done validating answer
 local_turn (local.Expire now) answer = ending (losing (ends_by_timer answer))
 local_turn step answer = quiet
+
+-- the congestion that is found when the loss detection timer expires
+abbrev pub FindsByTimer : {F Q R C K S M P : Type 0} {f : _} {c : _} {q : _} {m : _} {r : _} → LocalStep
+    → Result PairAnswer SenderError → Sender F Q R C K S M P f c q m r → Sender F Q R C K S M P f c q m r → Type 0
+FindsByTimer (local.Expire now) answer =
+    FindsWithCause (persists_by_timer answer) (lost_by_local (local.Expire now) answer) now
+    (λ congests. GoesOn (record (local_turn (local.Expire now) answer) { congests = congests }))
+FindsByTimer step answer = λ old new. Unit {0}
 
 -- what is declared lost when the loss detection timer expires
 abbrev pub timeout_turn : Result Timeout SenderError → EndTurn
@@ -112,6 +123,9 @@ module _ {F Q R C K S M P : Type 0} {f : _} {c : _} {q : _} {m : _} {r : _} (old
 
     -- a packet is new: its items are delivered, and its ACK frame is not refused for what it says
     pub record TakesPacket (packet : WirePacket) (now : ℕ) (items : Vec ℕ) (acked : AckOutcome) : Type 0 where
+      pub finds : FindsWithCause (persists_by_ack acked) (lost_by_ack packet.space acked) now (λ congests.
+          HearsNumber now packet.size packet.space packet.number (Ok true)
+          (with_congestion congests (endings_by_ack packet.space acked))) old new
       pub told : items.items ≡ packet.items.items
       pub honest : NoAccusation packet.space packet.ranges.items old acked
       pub within : AcksWithin packet.ranges.items acked

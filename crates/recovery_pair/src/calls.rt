@@ -1,16 +1,18 @@
 //! The calls of a sender that an end makes, and how each continues the sender's past.
 ghost use Rattle.std.specs.Prelude.{◌≡◌, ◌≢◌, [], ◌∷◌, true, IfOk, MatchResult, Some};
+ghost use Rattle.recovery_pair.specs.AddressKnown.{known_by_ack, with_confirmation, with_keys};
 ghost use Rattle.recovery_pair.specs.Carried.{Carries, CarriesNone, losing, lost_by_ack, lost_by_timeout, sending_with, taking};
+ghost use Rattle.recovery_pair.specs.Falls.{FindsWithCause};
 ghost use Rattle.recovery_pair.specs.Flights.{counted_if};
 ghost use Rattle.recovery_pair.specs.Frames.{IsFrameFor};
 ghost use Rattle.recovery_losses.specs.Frames.{largest_of};
 ghost use Rattle.recovery_pair.specs.LeastWindows.{IsLeastIf, KeepsLeastWindow, persists_by_ack, persists_by_timeout};
 ghost use Rattle.recovery_pair.specs.Newly.{AcksFlightBy};
-ghost use Rattle.recovery_pair.specs.Pasts.{Continues, GoesOn, GoesOnQuietly, HearsNumber, NoAccusation, SampledBy, SendsNumber, AcksWithin, arm_told, arriving, discarding, ending, endings_by_ack, heard_of, no_endings, validating};
+ghost use Rattle.recovery_pair.specs.Pasts.{Continues, GoesOn, GoesOnQuietly, HearsNumber, NoAccusation, SampledBy, SendsNumber, AcksWithin, arm_told, arriving, discarding, ending, endings_by_ack, heard_of, no_endings, validating, with_congestion};
 ghost use Rattle.recovery_pair.specs.Promises.Framed.{HasFrame};
 ghost use Rattle.recovery_pair.specs.Permits.{FitsChecked, said_by, window_checked};
 ghost use Rattle.recovery_pair.specs.Promises.Repeats.{is_probe};
-ghost use Rattle.recovery_pair.specs.Timed.{KeepsTimer};
+ghost use Rattle.recovery_pair.specs.Timed.{KeepsTimer, KeepsTimerAs};
 ghost use Rattle.recovery_pair.specs.Turns.{FitsIfPermitted, TransmitTurn, TriesTurn, timeout_turn};
 
 use crate::steps::{AckOutcome, WirePacket};
@@ -286,9 +288,12 @@ where
     ensures framed { HasFrame (largest_of packet.now.ranges.items) result }
     ensures sampled { SampledBy packet.now.space now packet.now.ranges.items sender.old result }
     ensures newly { AcksFlightBy packet.now.space packet.now.ranges.items sender.old result }
-    ensures timer { KeepsTimer sender.old sender.new }
+    ensures timer { KeepsTimerAs (known_by_ack packet.now.space result) sender.old sender.new }
     ensures items { Carries (losing (lost_by_ack packet.now.space result)) sender.old sender.new }
     ensures least { IsLeastIf (persists_by_ack result) sender.new }
+    ensures finds { FindsWithCause (persists_by_ack result) (lost_by_ack packet.now.space result)
+        now (λ congests. GoesOn (ending (with_congestion congests
+        (endings_by_ack packet.now.space result)))) sender.old sender.new }
 {
     if packet.ranges.is_empty() {
         return AckOutcome::NoFrame;
@@ -316,6 +321,9 @@ where
     ensures timer { KeepsTimer sender.old sender.new }
     ensures items { Carries (losing (lost_by_timeout result)) sender.old sender.new }
     ensures least { IsLeastIf (persists_by_timeout result) sender.new }
+    ensures finds { FindsWithCause (persists_by_timeout result) (lost_by_timeout result) now
+        (λ congests. GoesOn (record (timeout_turn result) { congests = congests }))
+        sender.old sender.new }
 {
     sender.on_timeout(now)
 }
@@ -338,7 +346,7 @@ where
     F: ControllerFactory,
     R: Rng + Drop,
     ensures goes { Continues GoesOnQuietly sender.old sender.new }
-    ensures timer { KeepsTimer sender.old sender.new }
+    ensures timer { KeepsTimerAs with_keys sender.old sender.new }
     ensures items { CarriesNone sender.old sender.new }
 {
     sender.on_handshake_keys();
@@ -350,7 +358,7 @@ where
     F: ControllerFactory,
     R: Rng + Drop,
     ensures goes { Continues GoesOnQuietly sender.old sender.new }
-    ensures timer { KeepsTimer sender.old sender.new }
+    ensures timer { KeepsTimerAs with_confirmation sender.old sender.new }
     ensures items { CarriesNone sender.old sender.new }
 {
     sender.on_handshake_confirmed();

@@ -1,12 +1,13 @@
 //! An endpoint of a connection: a sender with its caller.
 ghost use Rattle.std.specs.Prelude.{◌≡◌, ◌⊎◌, ◌+◌, ◌<◌, ◌≤◌, ℕ, List, IfOk, MatchResult, None, Ok, false, length, [], ◌∷◌, ◌++◌};
 ghost use Rattle.std.specs.Vec.{vec_len, vec_capacity};
+ghost use Rattle.recovery_pair.specs.AddressKnown.{known_by_fate, known_by_step};
 ghost use Rattle.recovery_pair.specs.Carried.{CarriesNone, Exchanges, IsNoProbe, MovesBack, MovesItems, MovesSent, TakesItems, hands_by, lost_by_fate, lost_by_local, none_lost};
 ghost use Rattle.recovery_pair.specs.LeastWindows.{IsLeastIf, KeepsLeastWindow, persists_by_fate, persists_by_timer};
 ghost use Rattle.recovery_pair.specs.Pasts.{Continues, GoesOn, GoesOnQuietly};
-ghost use Rattle.recovery_pair.specs.Turns.{HearTurn, PackTurn, SendTurn, local_turn};
+ghost use Rattle.recovery_pair.specs.Turns.{FindsByTimer, HearTurn, PackTurn, SendTurn, local_turn};
 ghost use Rattle.recovery_pair.specs.Permits.{IsIdle, PermitsOutcome};
-ghost use Rattle.recovery_pair.specs.Timed.{KeepsTimer};
+ghost use Rattle.recovery_pair.specs.Timed.{KeepsTimer, KeepsTimerAs};
 ghost use Rattle.recovery_pair.specs.Promises.Locals.{IsDone, IsDoneOrNothing, IsLocalAnswer};
 ghost use Rattle.recovery_pair.specs.Waits.{GainsOne, HandWaits, IsPlaceInQueue, LocalWaits, LosesNone, LosesOne, PackWaits, SendWaits, waiting_in};
 
@@ -301,7 +302,8 @@ where
     ) -> Result<Fate, SenderError>
         ensures goes { HearTurn self.old.sender self.new.sender packet.now now result }
         ensures waits { LosesNone self.old.waiting.items self.new.waiting.items }
-        ensures timer { KeepsTimer self.old.sender self.new.sender }
+        ensures timer { KeepsTimerAs (known_by_fate packet.now.space result) self.old.sender
+            self.new.sender }
         ensures items { MovesItems None None (lost_by_fate packet.now.space result) IsNoProbe
             (self.old.sender, self.old.waiting.items)
             (self.new.sender, self.new.waiting.items) }
@@ -374,11 +376,12 @@ where
             self.new.sender }
         ensures answer { IfOk result (IsLocalAnswer step) }
         ensures waits { LocalWaits self.old.waiting.items self.new.waiting.items step result }
-        ensures timer { KeepsTimer self.old.sender self.new.sender }
+        ensures timer { KeepsTimerAs (known_by_step step result) self.old.sender self.new.sender }
         ensures items { MovesItems (hands_by step result) None (lost_by_local step result) IsNoProbe
             (self.old.sender, self.old.waiting.items)
             (self.new.sender, self.new.waiting.items) }
         ensures least { IsLeastIf (persists_by_timer result) self.new.sender }
+        ensures finds { FindsByTimer step result self.old.sender self.new.sender }
     {
         match step {
             LocalStep::Hand { space, items } => self.hand(space, items),

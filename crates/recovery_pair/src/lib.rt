@@ -5,6 +5,7 @@
 
 mod calls;
 mod endpoint;
+pub mod laws;
 mod pair;
 mod runs;
 mod steps;

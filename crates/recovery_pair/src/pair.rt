@@ -2,6 +2,7 @@
 ghost use Rattle.std.specs.Prelude.{◌≡◌, ◌≤◌, [], ◌∷◌, IfOk, None};
 ghost use Rattle.recovery_base.specs.Units.{number_limit};
 ghost use Rattle.recovery_packet_numbers.specs.Skips.{IsSkips};
+ghost use Rattle.recovery_pair.specs.AddressKnown.{known_at, known_by_fate, known_by_step};
 ghost use Rattle.recovery_pair.specs.Carried.{IsNoProbe, MovesItems, MovesSent, hands_by, lost_by_fate, lost_by_local};
 ghost use Rattle.recovery_pair.specs.LeastWindows.{AreLeastAfter, IsLeastIf, persists_by_fate, persists_by_timer};
 ghost use Rattle.recovery_pair.specs.NoDeadlock.{HoldsWithCause, IfTied, NeverStuck};
@@ -10,9 +11,9 @@ ghost use Rattle.recovery_pair.specs.Permits.{HoldsAt, PermitsAnswer, PermitsOut
 ghost use Rattle.recovery_pair.specs.Promises.Locals.{IsLocalAnswer};
 ghost use Rattle.recovery_pair.specs.Runs.{StepKeeps};
 ghost use Rattle.recovery_pair.specs.Tied.{IsTied};
-ghost use Rattle.recovery_pair.specs.Timed.{HaveTimersByEvents, KeepsTimer};
+ghost use Rattle.recovery_pair.specs.Timed.{AreTimedAs, KeepsTimer, KeepsTimerAs, KeepsTimers};
 ghost use Rattle.recovery_pair.specs.Waits.{LocalWaits, LosesNone, SendWaits};
-ghost use Rattle.recovery_pair.specs.Turns.{HearTurn, SendTurn, TurnsAt, local_turn};
+ghost use Rattle.recovery_pair.specs.Turns.{FindsByTimer, HearTurn, SendTurn, TurnsAt, local_turn};
 
 use crate::calls::NO_MEMORY;
 use crate::endpoint::{Endpoint, Outgoing};
@@ -99,8 +100,8 @@ where
     ensures waits { TurnsAt to (λ old new. LosesNone old new)
         client.old.waiting.items server.old.waiting.items client.new.waiting.items
         server.new.waiting.items }
-    ensures timer { TurnsAt to KeepsTimer client.old.sender server.old.sender client.new.sender
-        server.new.sender }
+    ensures timer { TurnsAt to (KeepsTimerAs (known_by_fate packet.now.space result))
+        client.old.sender server.old.sender client.new.sender server.new.sender }
     ensures items { TurnsAt to
         (MovesItems None None (lost_by_fate packet.now.space result) IsNoProbe)
         (client.old.sender, client.old.waiting.items)
@@ -132,8 +133,8 @@ where
     ensures waits { TurnsAt end (λ old new. LocalWaits old new step result)
         client.old.waiting.items server.old.waiting.items client.new.waiting.items
         server.new.waiting.items }
-    ensures timer { TurnsAt end KeepsTimer client.old.sender server.old.sender client.new.sender
-        server.new.sender }
+    ensures timer { TurnsAt end (KeepsTimerAs (known_by_step step result)) client.old.sender
+        server.old.sender client.new.sender server.new.sender }
     ensures items { TurnsAt end
         (MovesItems (hands_by step result) None (lost_by_local step result) IsNoProbe)
         (client.old.sender, client.old.waiting.items)
@@ -142,6 +143,8 @@ where
         (server.new.sender, server.new.waiting.items) }
     ensures least { TurnsAt end (λ old new. IsLeastIf (persists_by_timer result) new)
         client.old.sender server.old.sender client.new.sender server.new.sender }
+    ensures finds { TurnsAt end (FindsByTimer step result) client.old.sender server.old.sender
+        client.new.sender server.new.sender }
 {
     match end {
         End::Client => client.local(step),
@@ -169,7 +172,7 @@ where
             IsTied server.config.validated [] pair.client.sender pair.server.sender
             pair.wire.items pair.client.waiting.items pair.server.waiting.items) }
         ensures timer_set { IfOk result
-            (λ pair. HaveTimersByEvents pair.client.sender pair.server.sender) }
+            (λ pair. AreTimedAs (λ end. known_at end []) pair.client.sender pair.server.sender) }
     {
         let client = Sender::new(alloc, Side::Client, client.config, client.rng, start)?;
         let server = Sender::new(alloc, Side::Server, server.config, server.rng, start)?;
@@ -193,12 +196,14 @@ where
         ensures permits { SendsAsPermitted step result self.old.client.sender
             self.old.server.sender }
 
-        // The timer of each endpoint follows the events (RFC 9002, 6.2.1, 6.2.2.1 and A.8).
-        ensures timer_set { HaveTimersByEvents self.old.client.sender self.old.server.sender
-            → HaveTimersByEvents self.new.client.sender self.new.server.sender }
+        // The timer of each endpoint follows the events, and what it knows of the handshake the steps and answers (RFC
+        // 9002, 6.2.1, 6.2.2.1 and A.8).
+        ensures timer_set { KeepsTimers (step, result) self.old.client.sender
+            self.old.server.sender self.new.client.sender self.new.server.sender }
 
-        // No endpoint is stuck: while bytes are in flight its timer is set, and the window holds a datagram back only
-        // then (RFC 9002, 6.2 and 7).
+        // No endpoint is stuck. If it may probe, its timer is set while bytes are in flight, and the window holds a
+        // datagram back only then (RFC 9002, 6.2 and 7). If callers follow the handshake, the client's timer is set
+        // until the server validates the client's address (RFC 9000, 8.1).
         ensures unstuck { NeverStuck self.old.client.sender self.old.server.sender
             self.old.wire.items self.old.client.waiting.items self.old.server.waiting.items step
             result self.new.client.sender self.new.server.sender }
@@ -233,8 +238,9 @@ where
             self.new.server.waiting.items }
         ensures permits { HoldsAt end (PermitsAnswer space now size result)
             self.old.client.sender self.old.server.sender }
-        ensures timer_set { HaveTimersByEvents self.old.client.sender self.old.server.sender
-            → HaveTimersByEvents self.new.client.sender self.new.server.sender }
+        ensures timer_set { KeepsTimers (PairStep.Send end space now size, result)
+            self.old.client.sender self.old.server.sender self.new.client.sender
+            self.new.server.sender }
         ensures held { IfTied self.old.client.sender self.old.server.sender self.old.wire.items
             self.old.client.waiting.items self.old.server.waiting.items
             (λ validated log. HoldsWithCause self.old.client.sender self.old.server.sender
@@ -280,8 +286,8 @@ where
             self.old.client.waiting.items self.old.server.waiting.items
             (PairStep.Arrive at now) result self.new.client.sender self.new.server.sender
             self.new.wire.items self.new.client.waiting.items self.new.server.waiting.items }
-        ensures timer_set { HaveTimersByEvents self.old.client.sender self.old.server.sender
-            → HaveTimersByEvents self.new.client.sender self.new.server.sender }
+        ensures timer_set { KeepsTimers (PairStep.Arrive at now, result) self.old.client.sender
+            self.old.server.sender self.new.client.sender self.new.server.sender }
         ensures least { AreLeastAfter (PairStep.Arrive at now, result) self.new.client.sender
             self.new.server.sender }
     {
@@ -314,8 +320,8 @@ where
             self.old.client.waiting.items self.old.server.waiting.items
             (PairStep.Local end step) result self.new.client.sender self.new.server.sender
             self.new.wire.items self.new.client.waiting.items self.new.server.waiting.items }
-        ensures timer_set { HaveTimersByEvents self.old.client.sender self.old.server.sender
-            → HaveTimersByEvents self.new.client.sender self.new.server.sender }
+        ensures timer_set { KeepsTimers (PairStep.Local end step, result) self.old.client.sender
+            self.old.server.sender self.new.client.sender self.new.server.sender }
         ensures least { AreLeastAfter (PairStep.Local end step, result) self.new.client.sender
             self.new.server.sender }
     {

@@ -1,5 +1,7 @@
 use Rattle.std.proofs.Common.{false, refl}
-use Rattle.recovery_pair.proofs.QuietLaws.{pending_quietly, probe_quietly}
+use Rattle.recovery_pair.proofs.AlongLaws.{passes_so}
+use Rattle.recovery_pair.proofs.QuietLaws.{ending_along, probe_quietly}
+use Rattle.recovery_pair.specs.Pasts.{no_endings}
 use Rattle.recovery_events.specs.declared.event.Event.TheVariants.{TakePending}
 use Rattle.recovery_pair.proofs.TimedLaws.{event_timer, probe_timer}
 use Rattle.recovery_pair.proofs.ItemLaws.{failed_carries, pending_carries, probe_matches}
@@ -11,25 +13,23 @@ returns-then-probe-clause-goes g c = probe_quietly c.args.space false tt c.args.
     c.probe.ensures
 
 pub returns-in-Ok-Queue-clause-goes : goal.returns-in-Ok-Queue-clause-goes
-returns-in-Ok-Queue-clause-goes g c = pending_quietly c.args.space c.args.sender.now c.on_event.new.self
-    c.on_event.result
-    c.on_event.ensures
+returns-in-Ok-Queue-clause-goes g c = passes_so (ending_along no_endings) _ _ (TakePending c.args.space) (λ reply. tt)
+    refl c.on_event.result c.on_event.ensures
 
 pub returns-in-Err-clause-goes : goal.returns-in-Err-clause-goes
-returns-in-Err-clause-goes g c = pending_quietly c.args.space c.args.sender.now c.on_event.new.self
-    c.on_event.result
-    c.on_event.ensures
+returns-in-Err-clause-goes g c = passes_so (ending_along no_endings) _ _ (TakePending c.args.space) (λ reply. tt) refl
+    c.on_event.result c.on_event.ensures
 
 pub returns-then-probe-clause-timer : goal.returns-then-probe-clause-timer
 returns-then-probe-clause-timer g c = probe_timer c.args.sender.now c.probe.new.self c.args.space false tt
     c.probe.result c.probe.ensures
 
 pub returns-in-Ok-Queue-clause-timer : goal.returns-in-Ok-Queue-clause-timer
-returns-in-Ok-Queue-clause-timer g c = event_timer c.args.sender.now c.on_event.new.self (TakePending c.args.space) tt
+returns-in-Ok-Queue-clause-timer g c = event_timer _ _ (TakePending c.args.space) tt
     refl c.on_event.result c.on_event.ensures
 
 pub returns-in-Err-clause-timer : goal.returns-in-Err-clause-timer
-returns-in-Err-clause-timer g c = event_timer c.args.sender.now c.on_event.new.self (TakePending c.args.space) tt
+returns-in-Err-clause-timer g c = event_timer _ _ (TakePending c.args.space) tt
     refl c.on_event.result c.on_event.ensures
 
 pub returns-in-Ok-Queue-clause-items : goal.returns-in-Ok-Queue-clause-items
@@ -37,7 +37,7 @@ returns-in-Ok-Queue-clause-items g c = rw c.if-probe.false (pending_carries c.ar
     c.args.sender.now c.on_event.new.self (rw c.in-Ok-Queue.field-0-is at c.in-Ok-Queue.ensures))
 
 pub returns-in-Err-clause-items : goal.returns-in-Err-clause-items
-returns-in-Err-clause-items g c = failed_carries (TakePending c.args.space) c.args.sender.now c.on_event.new.self
+returns-in-Err-clause-items g c = failed_carries (TakePending c.args.space) _ _
     (λ refusal. tt) c.in-Err.refused c.in-Err.ensures
 
 pub returns-then-probe-clause-items : goal.returns-then-probe-clause-items

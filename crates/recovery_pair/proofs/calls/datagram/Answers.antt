@@ -1,3 +1,4 @@
+use Rattle.std.proofs.Common.{refl}
 use Rattle.recovery_events.specs.declared.event.Answer.TheVariants.{Done}
 use Rattle.recovery_pair.specs.Pasts.{arriving}
 use Rattle.recovery_pair.proofs.GoingLaws.{arrives_event}
@@ -13,7 +14,7 @@ returns-clause-goes g c = rw (← c.from.ensures) (tries_event _ (arriving c.fro
 
 pub returns-clause-timer : goal.returns-clause-timer
 returns-clause-timer g c = tries_timer c.args.sender.now c.on_datagram.new.self _ _ c.on_datagram.result
-    c.on_datagram.ensures.steps c.on_datagram.ensures.refused
+    c.on_datagram.ensures.steps c.on_datagram.ensures.refused (λ done. refl)
 
 pub returns-clause-items : goal.returns-clause-items
 returns-clause-items g c = tries_carries _ _ c.args.sender.now c.on_datagram.new.self c.on_datagram.result

@@ -1,3 +1,4 @@
+use Rattle.std.proofs.Common.{refl}
 use Rattle.recovery_events.specs.declared.event.Answer.TheVariants.{Done}
 use Rattle.recovery_losses.specs.Variables.{begun_anew}
 use Rattle.recovery_pair.specs.Pasts.{discarding}
@@ -14,7 +15,7 @@ returns-clause-goes g c = tries_event _ (discarding c.args.space)
 
 pub returns-clause-timer : goal.returns-clause-timer
 returns-clause-timer g c = tries_timer c.args.sender.now c.discard.new.self _ _ c.discard.result
-    c.discard.ensures.steps c.discard.ensures.refused
+    c.discard.ensures.steps c.discard.ensures.refused (λ done. refl)
 
 pub returns-clause-items : goal.returns-clause-items
 returns-clause-items g c = tries_carries _ _ c.args.sender.now c.discard.new.self c.discard.result (λ done. (tt, tt))

@@ -16,17 +16,17 @@ returns-in-Err-clause-goes g c = dropped_by_call c.args.space c.args.now c.args.
     c.on_event.new.self c.in-Err.ensures
 
 pub returns-in-Ok-clause-timer : goal.returns-in-Ok-clause-timer
-returns-in-Ok-clause-timer g c = event_timer c.args.sender.now c.on_event.new.self
-    (Received c.args.space c.args.now c.args.number c.args.eliciting) tt refl c.on_event.result c.on_event.ensures
+returns-in-Ok-clause-timer g c = event_timer _ _ (Received c.args.space c.args.now c.args.number c.args.eliciting) tt
+    refl c.on_event.result c.on_event.ensures
 
 pub returns-in-Err-clause-timer : goal.returns-in-Err-clause-timer
-returns-in-Err-clause-timer g c = event_timer c.args.sender.now c.on_event.new.self
-    (Received c.args.space c.args.now c.args.number c.args.eliciting) tt refl c.on_event.result c.on_event.ensures
+returns-in-Err-clause-timer g c = event_timer _ _ (Received c.args.space c.args.now c.args.number c.args.eliciting) tt
+    refl c.on_event.result c.on_event.ensures
 
 pub returns-in-Ok-clause-items : goal.returns-in-Ok-clause-items
-returns-in-Ok-clause-items g c = event_carries (Received c.args.space c.args.now c.args.number c.args.eliciting)
-    c.args.sender.now c.on_event.new.self (λ reply. tt) refl c.on_event.result c.on_event.ensures
+returns-in-Ok-clause-items g c = event_carries (Received c.args.space c.args.now c.args.number c.args.eliciting) _ _ (λ
+    reply. tt) refl c.on_event.result c.on_event.ensures
 
 pub returns-in-Err-clause-items : goal.returns-in-Err-clause-items
-returns-in-Err-clause-items g c = event_carries (Received c.args.space c.args.now c.args.number c.args.eliciting)
-    c.args.sender.now c.on_event.new.self (λ reply. tt) refl c.on_event.result c.on_event.ensures
+returns-in-Err-clause-items g c = event_carries (Received c.args.space c.args.now c.args.number c.args.eliciting) _ _ (λ
+    reply. tt) refl c.on_event.result c.on_event.ensures

@@ -23,13 +23,13 @@ returns-in-Err-clause-goes g c = unsent_quietly c.args.space c.args.now _ c.args
     c.args.sender.now c.send.new.self c.in-Err.refused c.in-Err.ensures
 
 pub returns-in-Ok-Sent-clause-timer : goal.returns-in-Ok-Sent-clause-timer
-returns-in-Ok-Sent-clause-timer g c = event_timer c.args.sender.now c.send.new.self
-    (Send c.args.space c.args.now _ c.args.eliciting c.args.largest c.args.queue tt) tt refl c.send.result
+returns-in-Ok-Sent-clause-timer g c = event_timer _ _ (Send c.args.space c.args.now _ c.args.eliciting c.args.largest
+    c.args.queue tt) tt refl c.send.result
     c.send.ensures
 
 pub returns-in-Err-clause-timer : goal.returns-in-Err-clause-timer
-returns-in-Err-clause-timer g c = event_timer c.args.sender.now c.send.new.self
-    (Send c.args.space c.args.now _ c.args.eliciting c.args.largest c.args.queue tt) tt refl c.send.result
+returns-in-Err-clause-timer g c = event_timer _ _ (Send c.args.space c.args.now _ c.args.eliciting c.args.largest
+    c.args.queue tt) tt refl c.send.result
     c.send.ensures
 
 pub returns-in-Ok-Sent-clause-items : goal.returns-in-Ok-Sent-clause-items
@@ -39,4 +39,4 @@ returns-in-Ok-Sent-clause-items g c = send_carries c.args.space c.args.now c.cou
 
 pub returns-in-Err-clause-items : goal.returns-in-Err-clause-items
 returns-in-Err-clause-items g c = failed_carries (Send c.args.space c.args.now _ c.args.eliciting c.args.largest
-    c.args.queue tt) c.args.sender.now c.send.new.self (λ refusal. tt) c.in-Err.refused c.in-Err.ensures
+    c.args.queue tt) _ _ (λ refusal. tt) c.in-Err.refused c.in-Err.ensures

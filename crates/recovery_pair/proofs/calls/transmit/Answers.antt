@@ -1,3 +1,4 @@
+use Rattle.std.proofs.Common.{refl}
 use Rattle.recovery_sender.specs.Calls.{is_checked}
 use Rattle.recovery_pair.proofs.PacketLaws.{may_transmit}
 use Rattle.recovery_pair.proofs.TimedLaws.{tries_timer}
@@ -17,7 +18,7 @@ returns-clause-fits g c = fits_checked c.args.sender.now c.args.space c.args.siz
 
 pub returns-clause-timer : goal.returns-clause-timer
 returns-clause-timer g c = tries_timer c.args.sender.now c.transmit.new.self _ _ c.transmit.result
-    c.transmit.ensures.steps c.transmit.ensures.refused
+    c.transmit.ensures.steps c.transmit.ensures.refused (λ done. refl)
 
 pub returns-clause-items : goal.returns-clause-items
 returns-clause-items g c = transmit_carries c.args.now c.args.size (is_checked c.args.sender.now.variables c.args.space

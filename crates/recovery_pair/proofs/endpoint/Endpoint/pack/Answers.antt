@@ -33,31 +33,26 @@ returns-in-Ok-track-clause-goes g c =
     }
 
 pub returns-in-Err-track-clause-goes : goal.returns-in-Err-track-clause-goes
-returns-in-Err-track-clause-goes g c = quietly_then c.args.self.now.sender c.take_items.new.self.sender
-    c.keep.new.self.sender
+returns-in-Err-track-clause-goes g c = quietly_then _ _ _
     c.in-Ok.ensures.goes (rw c.keep.ensures.goes c.in-Err-track.ensures.goes)
 
 pub returns-in-Ok-track-clause-timer : goal.returns-in-Ok-track-clause-timer
-returns-in-Ok-track-clause-timer g c = λ has. c.end_acks.ensures.timer (c.in-Ok-track.ensures.timer
-    (c.in-Ok.ensures.timer has))
+returns-in-Ok-track-clause-timer g c = λ known has. c.end_acks.ensures.timer known
+    (c.in-Ok-track.ensures.timer known (c.in-Ok.ensures.timer known has))
 
 pub returns-in-Err-track-clause-timer : goal.returns-in-Err-track-clause-timer
-returns-in-Err-track-clause-timer g c = λ has. rw c.keep.ensures.goes (c.in-Err-track.ensures.timer
-    (c.in-Ok.ensures.timer has))
+returns-in-Err-track-clause-timer g c = λ known has. rw c.keep.ensures.goes
+    (c.in-Err-track.ensures.timer known (c.in-Ok.ensures.timer known has))
 
 pub returns-in-Ok-track-clause-items : goal.returns-in-Ok-track-clause-items
 returns-in-Ok-track-clause-items g c =
     let second = c.in-Ok.ensures.copies.1 in
     rw (← c.is_probe-probe.ensures) (sends_move c.is_probe-probe.result c.args.space c.in-Ok-track.number
-    c.in-Ok.taken.queue c.in-Ok.taken.told.items
-    c.args.self.now.sender c.take_items.new.self.sender c.track.new.sender c.end_acks.new.self.sender
-    c.args.self.now.waiting.items c.take_items.new.self.waiting.items c.end_acks.new.self.waiting.items
+    c.in-Ok.taken.queue _ _ _ _ _ _ _ c.end_acks.new.self.waiting.items
     c.in-Ok.ensures.items c.in-Ok-track.ensures.items c.end_acks.ensures.items c.end_acks.ensures.waits cc)
 
 pub returns-in-Err-track-clause-items : goal.returns-in-Err-track-clause-items
 returns-in-Err-track-clause-items g c =
     let first = c.in-Ok.ensures.copies.0 in
-    keeps_move c.is_probe-probe.result c.args.space c.in-Ok.taken.queue c.from_items.result
-    c.args.self.now.sender c.take_items.new.self.sender c.keep.new.self.sender
-    c.args.self.now.waiting.items c.take_items.new.self.waiting.items c.keep.new.self.waiting.items
+    keeps_move c.is_probe-probe.result c.args.space c.in-Ok.taken.queue c.from_items.result _ _ _ _ _ _
     c.in-Ok.ensures.items (rw c.keep.ensures.goes c.in-Err-track.ensures.items) c.keep.ensures.items cc

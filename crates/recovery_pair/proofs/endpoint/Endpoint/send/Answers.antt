@@ -30,7 +30,7 @@ returns-clause-permits g c =
     )
 
 pub returns-clause-timer : goal.returns-clause-timer
-returns-clause-timer g c = λ has. c.pack.ensures.timer (c.in-Ok-Transmitted.ensures.timer has)
+returns-clause-timer g c = λ known has. c.pack.ensures.timer known (c.in-Ok-Transmitted.ensures.timer known has)
 
 pub returns-clause-items : goal.returns-clause-items
 returns-clause-items g c = then_sends c.args.space c.pack.result c.args.self.now.sender c.transmit.new.sender

@@ -1,3 +1,5 @@
+use Rattle.std.proofs.Common.{ap}
+use Rattle.recovery_pair.specs.AddressKnown.{known_of}
 use Rattle.recovery_pair.proofs.NewLaws.{new_tied}
 use Rattle.recovery_pair.proofs.pair.Pair.new.Goals as goal
 
@@ -9,5 +11,8 @@ returns-clause-tied g c = rw (c.new-3.ensures.sender, c.new-4.ensures.sender, c.
     (λ measure adds. record { none = adds.none; joined = adds.joined }))
 
 pub returns-clause-timer_set : goal.returns-clause-timer_set
-returns-clause-timer_set g c = rw (c.new-3.ensures.sender, c.new-4.ensures.sender)
-    (c.in_ok-client.ensures.begins.does.running, c.in_ok-server.ensures.begins.does.running)
+returns-clause-timer_set g c =
+    let client = c.in_ok-client.ensures.begins.does in
+    let server = c.in_ok-server.ensures.begins.does in
+    rw (c.new-3.ensures.sender, c.new-4.ensures.sender)
+    ((client.running, ap known_of client.variables), (server.running, ap known_of server.variables))

@@ -10,44 +10,27 @@ use Rattle.recovery_pair.proofs.ItemTies.{failed_items, idle_items, nothing_item
 use Rattle.recovery_pair.proofs.PermitLaws.{permits_at, permits_none}
 use Rattle.recovery_pair.proofs.QueueLaws.{nothing_queue, same_queue, sent_queue, step_keeps, still_queue}
 use Rattle.recovery_pair.proofs.StepTies.{held_turn, idle_step, send_turn}
-use Rattle.recovery_pair.proofs.TimedLaws.{timers_at}
+use Rattle.recovery_pair.proofs.TimedLaws.{timers_still}
 use Rattle.recovery_pair.proofs.pair.Pair.send.Goals as goal
 
 pub returns-in-Ok-Sent-clause-keeps : goal.returns-in-Ok-Sent-clause-keeps
-returns-in-Ok-Sent-clause-keeps g c = rw c.sent_ack-ack.ensures (step_keeps c.args.self.now.client.sender
-    c.args.self.now.server.sender c.send_from.new.client.sender
-    c.send_from.new.server.sender c.args.self.now.wire.items c.push_reserved.new.self.items
-    c.args.self.now.client.waiting.items
-    c.args.self.now.server.waiting.items c.send_from.new.client.waiting.items c.send_from.new.server.waiting.items
-    (Send c.args.end c.args.space c.args.now c.args.size) (Ok (Sent c.in-Ok-Sent.packet.number c.in-Ok-Sent.items
-    c.in-Ok-Sent.packet.eliciting c.in-Ok-Sent.window (ack_of c.in-Ok-Sent.packet)))
+returns-in-Ok-Sent-clause-keeps g c = rw c.sent_ack-ack.ensures (step_keeps _ _ _ _ _ _ _ _ _ _ _ _
     (send_turn c.args.end c.args.space c.args.now c.args.size c.in-Ok-Sent.packet c.in-Ok-Sent.items c.in-Ok-Sent.window
-    c.args.self.now.client.sender c.args.self.now.server.sender c.send_from.new.client.sender
-    c.send_from.new.server.sender c.args.self.now.wire.items c.push_reserved.new.self.items
+    _ _ _ _ _ _
     (rw c.in-Ok.ensures.items at c.push_reserved.ensures.items)
     (rw c.in-Ok-Sent.field-0-is at c.in-Ok-Sent.ensures.goes))
     tt (sent_queue c.args.end c.args.space c.args.now c.args.size c.in-Ok-Sent.packet.number c.in-Ok-Sent.items
-    c.in-Ok-Sent.packet.eliciting c.in-Ok-Sent.window (ack_of c.in-Ok-Sent.packet)
-    c.args.self.now.client.waiting.items
-    c.args.self.now.server.waiting.items c.send_from.new.client.waiting.items c.send_from.new.server.waiting.items
+    c.in-Ok-Sent.packet.eliciting c.in-Ok-Sent.window (ack_of c.in-Ok-Sent.packet) _ _ _ _
     (rw c.in-Ok-Sent.field-0-is at c.in-Ok-Sent.ensures.waits))
     (sent_items c.args.end c.args.space c.args.now c.args.size c.in-Ok-Sent.packet.number c.in-Ok-Sent.items
     c.in-Ok-Sent.packet.eliciting c.in-Ok-Sent.window (ack_of c.in-Ok-Sent.packet) _ _ _ _ (rw c.in-Ok-Sent.field-0-is
     at c.in-Ok-Sent.ensures.items)))
 
 pub returns-in-Ok-Nothing-clause-keeps : goal.returns-in-Ok-Nothing-clause-keeps
-returns-in-Ok-Nothing-clause-keeps g c = step_keeps c.args.self.now.client.sender c.args.self.now.server.sender
-    c.send_from.new.client.sender
-    c.send_from.new.server.sender c.args.self.now.wire.items c.reserve.new.self.items
-    c.args.self.now.client.waiting.items
-    c.args.self.now.server.waiting.items c.send_from.new.client.waiting.items c.send_from.new.server.waiting.items
-    (Send c.args.end c.args.space c.args.now c.args.size) (Ok Nothing)
-    (held_turn c.args.end (Send c.args.end c.args.space c.args.now c.args.size) (Ok Nothing)
-    c.args.self.now.client.sender c.args.self.now.server.sender
-    c.send_from.new.client.sender c.send_from.new.server.sender c.args.self.now.wire.items c.reserve.new.self.items
+returns-in-Ok-Nothing-clause-keeps g c = step_keeps _ _ _ _ _ _ _ _ _ _ _ _
+    (held_turn c.args.end _ _ _ _ _ _ _ _
     c.in-Ok.ensures.items tt tt (λ log listed. tt) (rw c.in-Ok-Nothing.field-0-is at c.in-Ok-Nothing.ensures.goes))
-    tt (nothing_queue c.args.end c.args.space c.args.now c.args.size c.args.self.now.client.waiting.items
-    c.args.self.now.server.waiting.items c.send_from.new.client.waiting.items c.send_from.new.server.waiting.items
+    tt (nothing_queue c.args.end c.args.space c.args.now c.args.size _ _ _ _
     (rw c.in-Ok-Nothing.field-0-is at c.in-Ok-Nothing.ensures.waits))
     (nothing_items c.args.end c.args.space c.args.now c.args.size _ _ _ _
     (rw c.in-Ok-Nothing.field-0-is at c.in-Ok-Nothing.ensures.permits)
@@ -55,146 +38,108 @@ returns-in-Ok-Nothing-clause-keeps g c = step_keeps c.args.self.now.client.sende
     (rw c.in-Ok-Nothing.field-0-is at c.in-Ok-Nothing.ensures.items))
 
 pub returns-in-Ok-Held-clause-keeps : goal.returns-in-Ok-Held-clause-keeps
-returns-in-Ok-Held-clause-keeps g c = step_keeps c.args.self.now.client.sender c.args.self.now.server.sender
-    c.send_from.new.client.sender
-    c.send_from.new.server.sender c.args.self.now.wire.items c.reserve.new.self.items
-    c.args.self.now.client.waiting.items
-    c.args.self.now.server.waiting.items c.send_from.new.client.waiting.items c.send_from.new.server.waiting.items
-    (Send c.args.end c.args.space c.args.now c.args.size) (Ok (Held c.in-Ok-Held.held))
-    (held_turn c.args.end (Send c.args.end c.args.space c.args.now c.args.size) (Ok (Held c.in-Ok-Held.held))
-    c.args.self.now.client.sender c.args.self.now.server.sender
-    c.send_from.new.client.sender c.send_from.new.server.sender c.args.self.now.wire.items c.reserve.new.self.items
+returns-in-Ok-Held-clause-keeps g c = step_keeps _ _ _ _ _ _ _ _ _ _ _ _
+    (held_turn c.args.end _ _ _ _ _ _ _ _
     c.in-Ok.ensures.items tt tt (λ log listed. tt) (rw c.in-Ok-Held.field-0-is at c.in-Ok-Held.ensures.goes))
-    tt (still_queue c.args.end (Send c.args.end c.args.space c.args.now c.args.size) (Ok (Held c.in-Ok-Held.held))
-    (λ log end. record { handed_same = λ measure there. refl; sent_same = λ measure there. refl }) (λ log. tt)
-    c.args.self.now.client.waiting.items
-    c.args.self.now.server.waiting.items c.send_from.new.client.waiting.items c.send_from.new.server.waiting.items
+    tt (still_queue c.args.end (Send c.args.end c.args.space c.args.now c.args.size) (Ok (Held c.in-Ok-Held.held)) (λ
+    log end. record {
+      handed_same = λ measure there. refl;
+      sent_same = λ measure
+          there. refl;
+    }) (λ log. tt) _ _ _ _
     (rw c.in-Ok-Held.field-0-is at c.in-Ok-Held.ensures.waits))
-    (idle_items c.args.end (Send c.args.end c.args.space c.args.now c.args.size) (Ok (Held c.in-Ok-Held.held)) _ _
+    (idle_items c.args.end _ _ _ _
     _ _ tt tt tt (λ log. tt) (rw c.in-Ok-Held.field-0-is at c.in-Ok-Held.ensures.items))
 
 pub returns-in-Ok-Failed-clause-keeps : goal.returns-in-Ok-Failed-clause-keeps
-returns-in-Ok-Failed-clause-keeps g c = step_keeps c.args.self.now.client.sender c.args.self.now.server.sender
-    c.send_from.new.client.sender
-    c.send_from.new.server.sender c.args.self.now.wire.items c.reserve.new.self.items
-    c.args.self.now.client.waiting.items
-    c.args.self.now.server.waiting.items c.send_from.new.client.waiting.items c.send_from.new.server.waiting.items
-    (Send c.args.end c.args.space c.args.now c.args.size) (Ok (Failed c.in-Ok-Failed.refused))
-    (held_turn c.args.end (Send c.args.end c.args.space c.args.now c.args.size) (Ok (Failed c.in-Ok-Failed.refused))
-    c.args.self.now.client.sender c.args.self.now.server.sender
-    c.send_from.new.client.sender c.send_from.new.server.sender c.args.self.now.wire.items c.reserve.new.self.items
+returns-in-Ok-Failed-clause-keeps g c = step_keeps _ _ _ _ _ _ _ _ _ _ _ _
+    (held_turn c.args.end _ _ _ _ _ _ _ _
     c.in-Ok.ensures.items tt tt (λ log listed. tt) (rw c.in-Ok-Failed.field-0-is at c.in-Ok-Failed.ensures.goes))
     tt (still_queue c.args.end (Send c.args.end c.args.space c.args.now c.args.size) (Ok (Failed
-    c.in-Ok-Failed.refused))
-    (λ log end. record { handed_same = λ measure there. refl; sent_same = λ measure there. refl }) (λ log. tt)
-    c.args.self.now.client.waiting.items
-    c.args.self.now.server.waiting.items c.send_from.new.client.waiting.items c.send_from.new.server.waiting.items
+    c.in-Ok-Failed.refused)) (λ log end. record {
+      handed_same = λ measure there. refl;
+      sent_same = λ measure
+          there. refl;
+    }) (λ log. tt) _ _ _ _
     (rw c.in-Ok-Failed.field-0-is at c.in-Ok-Failed.ensures.waits))
     (failed_items c.args.end c.args.space c.args.now c.args.size c.in-Ok-Failed.refused _ _ _ _
     (rw c.in-Ok-Failed.field-0-is at c.in-Ok-Failed.ensures.items))
 
 pub returns-in-Err-send_from-clause-keeps : goal.returns-in-Err-send_from-clause-keeps
-returns-in-Err-send_from-clause-keeps g c = step_keeps c.args.self.now.client.sender c.args.self.now.server.sender
-    c.send_from.new.client.sender
-    c.send_from.new.server.sender c.args.self.now.wire.items c.reserve.new.self.items
-    c.args.self.now.client.waiting.items
-    c.args.self.now.server.waiting.items c.send_from.new.client.waiting.items c.send_from.new.server.waiting.items
-    (Send c.args.end c.args.space c.args.now c.args.size) (Err c.in-Err-send_from.refused)
-    (held_turn c.args.end (Send c.args.end c.args.space c.args.now c.args.size) (Err c.in-Err-send_from.refused)
-    c.args.self.now.client.sender c.args.self.now.server.sender
-    c.send_from.new.client.sender c.send_from.new.server.sender c.args.self.now.wire.items c.reserve.new.self.items
+returns-in-Err-send_from-clause-keeps g c = step_keeps _ _ _ _ _ _ _ _ _ _ _ _
+    (held_turn c.args.end _ _ _ _ _ _ _ _
     c.in-Ok.ensures.items tt tt (λ log listed. tt) c.in-Err-send_from.ensures.goes)
-    tt (still_queue c.args.end (Send c.args.end c.args.space c.args.now c.args.size) (Err c.in-Err-send_from.refused)
-    (λ log end. record { handed_same = λ measure there. refl; sent_same = λ measure there. refl }) (λ log. tt)
-    c.args.self.now.client.waiting.items
-    c.args.self.now.server.waiting.items c.send_from.new.client.waiting.items c.send_from.new.server.waiting.items
+    tt (still_queue c.args.end (Send c.args.end c.args.space c.args.now c.args.size) (Err c.in-Err-send_from.refused) (λ
+    log end. record {
+      handed_same = λ measure there. refl;
+      sent_same = λ measure
+          there. refl;
+    }) (λ log. tt) _ _ _ _
     c.in-Err-send_from.ensures.waits)
-    (idle_items c.args.end (Send c.args.end c.args.space c.args.now c.args.size) (Err c.in-Err-send_from.refused) _
+    (idle_items c.args.end _ _ _
     _ _ _ tt tt tt (λ log. tt) c.in-Err-send_from.ensures.items)
 
 pub returns-in-Err-clause-keeps : goal.returns-in-Err-clause-keeps
-returns-in-Err-clause-keeps g c = step_keeps c.args.self.now.client.sender c.args.self.now.server.sender
-    c.args.self.now.client.sender c.args.self.now.server.sender c.args.self.now.wire.items c.reserve.new.self.items
-    c.args.self.now.client.waiting.items c.args.self.now.server.waiting.items c.args.self.now.client.waiting.items
-    c.args.self.now.server.waiting.items (Send c.args.end c.args.space c.args.now c.args.size) (Err (Event NoMemory))
-    (idle_step (Send c.args.end c.args.space c.args.now c.args.size) (Err (Event NoMemory))
-    c.args.self.now.client.sender
-    c.args.self.now.server.sender c.args.self.now.wire.items c.reserve.new.self.items c.in-Err.ensures.items tt tt
+returns-in-Err-clause-keeps g c = step_keeps _ _ _ _ _ _ _ _ _ _ _ _
+    (idle_step _ _ _ _ _ _ c.in-Err.ensures.items tt tt
     (λ log listed. tt))
     tt (same_queue (Send c.args.end c.args.space c.args.now c.args.size) (Err (Event NoMemory)) (λ log end. record {
       handed_same = λ measure there. refl;
       sent_same = λ measure there. refl;
-    }) (λ log. tt) c.args.self.now.client.waiting.items
-    c.args.self.now.server.waiting.items)
-    (same_items (Send c.args.end c.args.space c.args.now c.args.size) (Err (Event NoMemory)) _ _ tt tt tt (λ log. tt))
+    }) (λ log. tt) _ _)
+    (same_items _ _ _ _ tt tt tt (λ log. tt))
 
 pub returns-in-Ok-Sent-clause-permits : goal.returns-in-Ok-Sent-clause-permits
-returns-in-Ok-Sent-clause-permits g c = permits_at c.args.end c.args.space c.args.now c.args.size
-    (Ok (outgoing.Sent c.in-Ok-Sent.packet c.in-Ok-Sent.items c.in-Ok-Sent.window)) (Ok (Sent c.in-Ok-Sent.packet.number
-    c.in-Ok-Sent.items c.in-Ok-Sent.packet.eliciting c.in-Ok-Sent.window c.sent_ack-ack.result))
-    c.args.self.now.client.sender c.args.self.now.server.sender (λ Idle in_flight checked said agrees. agrees)
+returns-in-Ok-Sent-clause-permits g c = permits_at c.args.end c.args.space c.args.now c.args.size (Ok (outgoing.Sent
+    c.in-Ok-Sent.packet c.in-Ok-Sent.items c.in-Ok-Sent.window)) (Ok (Sent c.in-Ok-Sent.packet.number c.in-Ok-Sent.items
+    c.in-Ok-Sent.packet.eliciting c.in-Ok-Sent.window c.sent_ack-ack.result)) _ _ (λ Idle in_flight checked said agrees.
+    agrees)
     (rw c.in-Ok-Sent.field-0-is at c.in-Ok-Sent.ensures.permits)
 
 pub returns-in-Ok-Nothing-clause-permits : goal.returns-in-Ok-Nothing-clause-permits
-returns-in-Ok-Nothing-clause-permits g c = permits_at c.args.end c.args.space c.args.now c.args.size
-    (Ok outgoing.Nothing) (Ok Nothing)
-    c.args.self.now.client.sender c.args.self.now.server.sender (λ Idle in_flight checked said agrees. agrees)
+returns-in-Ok-Nothing-clause-permits g c = permits_at c.args.end c.args.space c.args.now c.args.size (Ok
+    outgoing.Nothing) (Ok Nothing) _ _ (λ Idle in_flight checked said agrees. agrees)
     (rw c.in-Ok-Nothing.field-0-is at c.in-Ok-Nothing.ensures.permits)
 
 pub returns-in-Ok-Held-clause-permits : goal.returns-in-Ok-Held-clause-permits
-returns-in-Ok-Held-clause-permits g c = permits_at c.args.end c.args.space c.args.now c.args.size
-    (Ok (outgoing.Held c.in-Ok-Held.held)) (Ok (Held c.in-Ok-Held.held))
-    c.args.self.now.client.sender c.args.self.now.server.sender (λ Idle in_flight checked said agrees. agrees)
+returns-in-Ok-Held-clause-permits g c = permits_at c.args.end c.args.space c.args.now c.args.size (Ok (outgoing.Held
+    c.in-Ok-Held.held)) (Ok (Held c.in-Ok-Held.held)) _ _ (λ Idle in_flight checked said agrees. agrees)
     (rw c.in-Ok-Held.field-0-is at c.in-Ok-Held.ensures.permits)
 
 pub returns-in-Ok-Failed-clause-permits : goal.returns-in-Ok-Failed-clause-permits
-returns-in-Ok-Failed-clause-permits g c = permits_at c.args.end c.args.space c.args.now c.args.size
-    (Ok (outgoing.Failed c.in-Ok-Failed.refused)) (Ok (Failed c.in-Ok-Failed.refused))
-    c.args.self.now.client.sender c.args.self.now.server.sender (λ Idle in_flight checked said agrees. agrees)
+returns-in-Ok-Failed-clause-permits g c = permits_at c.args.end c.args.space c.args.now c.args.size (Ok (outgoing.Failed
+    c.in-Ok-Failed.refused)) (Ok (Failed c.in-Ok-Failed.refused)) _ _ (λ Idle in_flight checked said agrees. agrees)
     (rw c.in-Ok-Failed.field-0-is at c.in-Ok-Failed.ensures.permits)
 
 pub returns-in-Err-send_from-clause-permits : goal.returns-in-Err-send_from-clause-permits
-returns-in-Err-send_from-clause-permits g c = permits_at c.args.end c.args.space c.args.now c.args.size
-    (Err c.in-Err-send_from.refused) (Err c.in-Err-send_from.refused)
-    c.args.self.now.client.sender c.args.self.now.server.sender (λ Idle in_flight checked said agrees. tt)
+returns-in-Err-send_from-clause-permits g c = permits_at c.args.end c.args.space c.args.now c.args.size (Err
+    c.in-Err-send_from.refused) (Err c.in-Err-send_from.refused) _ _ (λ Idle in_flight checked said agrees. tt)
     c.in-Err-send_from.ensures.permits
 
 pub returns-in-Err-clause-permits : goal.returns-in-Err-clause-permits
-returns-in-Err-clause-permits g c = permits_none c.args.end c.args.space c.args.now c.args.size
-    (Err (Event NoMemory)) c.args.self.now.client.sender c.args.self.now.server.sender (λ Idle in_flight checked said.
-    tt)
+returns-in-Err-clause-permits g c = permits_none c.args.end c.args.space c.args.now c.args.size (Err (Event NoMemory)) _
+    _ _
 
 pub returns-in-Ok-Sent-clause-timer_set : goal.returns-in-Ok-Sent-clause-timer_set
-returns-in-Ok-Sent-clause-timer_set g c = timers_at c.args.end c.args.self.now.client.sender
-    c.args.self.now.server.sender c.send_from.new.client.sender c.send_from.new.server.sender c.in-Ok-Sent.ensures.timer
+returns-in-Ok-Sent-clause-timer_set g c = timers_still c.args.end _ _ _ _ c.in-Ok-Sent.ensures.timer
 
 pub returns-in-Ok-Nothing-clause-timer_set : goal.returns-in-Ok-Nothing-clause-timer_set
-returns-in-Ok-Nothing-clause-timer_set g c = timers_at c.args.end c.args.self.now.client.sender
-    c.args.self.now.server.sender c.send_from.new.client.sender c.send_from.new.server.sender
-    c.in-Ok-Nothing.ensures.timer
+returns-in-Ok-Nothing-clause-timer_set g c = timers_still c.args.end _ _ _ _ c.in-Ok-Nothing.ensures.timer
 
 pub returns-in-Ok-Held-clause-timer_set : goal.returns-in-Ok-Held-clause-timer_set
-returns-in-Ok-Held-clause-timer_set g c = timers_at c.args.end c.args.self.now.client.sender
-    c.args.self.now.server.sender c.send_from.new.client.sender c.send_from.new.server.sender c.in-Ok-Held.ensures.timer
+returns-in-Ok-Held-clause-timer_set g c = timers_still c.args.end _ _ _ _ c.in-Ok-Held.ensures.timer
 
 pub returns-in-Ok-Failed-clause-timer_set : goal.returns-in-Ok-Failed-clause-timer_set
-returns-in-Ok-Failed-clause-timer_set g c = timers_at c.args.end c.args.self.now.client.sender
-    c.args.self.now.server.sender c.send_from.new.client.sender c.send_from.new.server.sender
-    c.in-Ok-Failed.ensures.timer
+returns-in-Ok-Failed-clause-timer_set g c = timers_still c.args.end _ _ _ _ c.in-Ok-Failed.ensures.timer
 
 pub returns-in-Err-send_from-clause-timer_set : goal.returns-in-Err-send_from-clause-timer_set
-returns-in-Err-send_from-clause-timer_set g c = timers_at c.args.end c.args.self.now.client.sender
-    c.args.self.now.server.sender c.send_from.new.client.sender c.send_from.new.server.sender
-    c.in-Err-send_from.ensures.timer
+returns-in-Err-send_from-clause-timer_set g c = timers_still c.args.end _ _ _ _ c.in-Err-send_from.ensures.timer
 
 pub returns-in-Ok-Held-clause-held : goal.returns-in-Ok-Held-clause-held
-returns-in-Ok-Held-clause-held g c = held_at c.args.self.now.client.sender c.args.self.now.server.sender
-    c.args.self.now.wire.items c.args.self.now.client.waiting.items c.args.self.now.server.waiting.items c.args.end
-    c.args.space c.args.now c.args.size c.in-Ok-Held.held c.send_from.new.client.sender c.send_from.new.server.sender
-    (rw c.in-Ok-Held.field-0-is at c.in-Ok-Held.ensures.goes)
+returns-in-Ok-Held-clause-held g c = held_at _ _ _ _ _ c.args.end c.args.space c.args.now c.args.size c.in-Ok-Held.held
+    _ _ (rw c.in-Ok-Held.field-0-is at c.in-Ok-Held.ensures.goes)
     (permits_at c.args.end c.args.space c.args.now c.args.size
-    (Ok (outgoing.Held c.in-Ok-Held.held)) (Ok (Held c.in-Ok-Held.held))
-    c.args.self.now.client.sender c.args.self.now.server.sender (λ Idle in_flight checked said agrees. agrees)
+    (Ok (outgoing.Held c.in-Ok-Held.held)) (Ok (Held c.in-Ok-Held.held)) _ _
+    (λ Idle in_flight checked said agrees. agrees)
     (rw c.in-Ok-Held.field-0-is at c.in-Ok-Held.ensures.permits))
-    (timers_at c.args.end c.args.self.now.client.sender c.args.self.now.server.sender c.send_from.new.client.sender
-    c.send_from.new.server.sender c.in-Ok-Held.ensures.timer)
+    (timers_still c.args.end _ _ _ _ c.in-Ok-Held.ensures.timer)

@@ -1,0 +1,9 @@
+//! Laws of controllers that the promises of two endpoints have as a premise.
+ghost use Rattle.recovery_congestion.specs.NewReno.{reno_words};
+ghost use Rattle.recovery_pair.specs.Falls.{FallsByRecovery};
+
+/// Proves that NewReno's window falls only if congestion begins a recovery period, for a packet that was sent after the
+/// last one began (RFC 9002, 7.3.2).
+pub fn new_reno_recovers()
+    ensures { FallsByRecovery reno_words }
+{}
