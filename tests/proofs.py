@@ -14,7 +14,7 @@ IMPORT = re.compile(r"(ghost )?(pub )?use ")
 COUNTED = re.compile(r"[\w)]((?:\.[01]){4,})(?!\w)")
 COLUMNS = 120
 MOST_COUNTED = 0  # terms that count four fields or more
-MOST_TIMES = 1.6  # proofs to code and definitions: what is promised of two endpoints needs most
+MOST_TIMES = 1.62  # proofs to code and definitions: what is promised of two endpoints needs most
 
 
 def sources(room, kind, everywhere=False):
