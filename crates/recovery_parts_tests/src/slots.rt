@@ -221,6 +221,26 @@ fn slots_are_looked_up(rt: HostRuntime) {
     }
 }
 
+/// Returns the items of a packet, none if it is not stored.
+fn items_of(slots: &Slots, number: u64) -> &[u64] {
+    match slots.item_of(number) {
+        Some(packet) => packet.retransmits.items(),
+        None => &[],
+    }
+}
+
+#[test]
+fn a_queue_is_exchanged_in_its_slot(rt: HostRuntime) {
+    let mut slots = queued(&rt, rt.alloc(), 5);
+    let Ok(mut queue) = ItemQueue::from_slice(rt.alloc(), &[7]) else {
+        panic!(&rt; "NoMemory");
+    };
+    holds(&rt, slots.exchange(3, &mut queue), 3);
+    holds(&rt, queue.is_empty(&()), 3);
+    holds(&rt, items_of(&slots, 3) == [7].as_slice(), 3);
+    holds(&rt, !slots.exchange(5, &mut queue), 5);
+}
+
 /// Of packets 0 to 999, those from 1 to 500 are removed, and their slots stay. A search reads at most 10 slots, as 1000
 /// slots are fewer than 2^10. A range reads one slot more for each from its start up to the packet that is found, or up
 /// to its end, inclusive.

@@ -10,7 +10,7 @@ use Rattle.std.proofs.lemmas.List.{length-drop, same_from_push}
 use Rattle.std.proofs.Math.Seq.{set-append_seam}
 use Rattle.std.proofs.lemmas.List.Filters.{length-filter_both}
 use Rattle.recovery_queue.specs.declared.slots.Slot.{Slot}
-use Rattle.recovery_queue.specs.Slots.{entries_in, item_at, AreSlotsIncreasing, IsSlotAt, IsNumberAt, IsIncreasing, Divides, IsHeldAt, IsAboveAll, IsFirst, IsFirstWith, IsLast, IsSlotQueueSound, IsClosedUp, IsFrontEmpty, IsBackFrom, Replaces, FindsSlot, CompactsSlots, RemovesSlot, trimmed, is_filled, is_below, is_from, first_number, AreFrom}
+use Rattle.recovery_queue.specs.Slots.{entries_in, item_at, AreSlotsIncreasing, IsSlotAt, IsNumberAt, IsIncreasing, Divides, IsHeldAt, IsAboveAll, IsFirst, IsFirstWith, IsLast, IsSlotQueueSound, IsClosedUp, IsFrontEmpty, IsBackFrom, Replaces, ExchangesPart, ExchangesAt, FindsSlot, CompactsSlots, RemovesSlot, trimmed, is_filled, is_below, is_from, first_number, AreFrom}
 use Rattle.recovery_queue.proofs.SlotLaws.{Slots, at_itself, one_slot, slot_within, held_at, divides_at}
 
 pub not_both : {b : Bool} → b ≡ true → b ≡ false → ⊥
@@ -99,37 +99,6 @@ module _ {T : Type 0} where
   item_held {number = number} {item = item} held =
       let its = here number item item held.after held.before held.none in
       rw (held.is, ← held.place_is) (its.0, its.3)
-
-  module _ {old mid : Slots T} {number place : ℕ} {at : Option ℕ × ℕ} {found : Option T}
-      (finds : FindsSlot old number at) (is : at.0 ≡ Some place) (first : Replaces old place None found mid) where
-    held : (item : T) × IsHeldAt old number place item
-    held = grind (arith, finds.place, is)
-
-    -- what is found and removed is no longer stored
-    pub taken : (found ≡ item_at old number) × (entries_in mid ≡ remove_entry (is_at (nat_cmp number)) (entries_in old))
-        × IfNone found ⊥
-    taken =
-        let its = held.1 in
-        grind (
-          arith,
-          its.is,
-          replaced its.before its.after number its.is its.place_is first,
-          here number held.0 held.0 its.after its.before its.none,
-        )
-
-    -- another replaces it
-    pub put_back : {left : Option T} {new : Slots T} (other : T) → Replaces mid place (Some other) left new
-        → (entries_in new ≡ set_value (is_at (nat_cmp number)) (entries_in old) other) × (length new ≡ length old)
-    put_back other second =
-        let its = held.1 in
-        let empty = replaced its.before its.after number its.is its.place_is first in
-        grind (
-          arith,
-          its.is,
-          replaced its.before its.after number empty.1 its.place_is second,
-          here number held.0 other its.after its.before its.none,
-          length-append {A = Slot T},
-        )
 
   -- if nothing is stored under a number, nothing is removed
   pub absent_removed : (entries : List (ℕ × T)) (number : ℕ) → lookup (is_at (nat_cmp number)) entries ≡ None
@@ -228,6 +197,34 @@ module _ {T : Type 0} where
           rest.0,
           grind (arith, rest.1, empties.found_is),
         )
+
+  -- a part of what is stored under a number is exchanged in its slot
+  module _ {P : Type 0} (exchanged : T → P → T → P → Type 0) {old : Slots T} {number place : ℕ} (slot : Slot T)
+      (rises : IsIncreasing old) (its : IsNumberAt old number place) (at : IsSlotAt old place slot) where
+    exchanged_with : (part left : P) (item other : Option T) → slot.item ≡ item
+        → MatchOption item (item_at old number ≡ None) (IsHeldAt old number place)
+        → ExchangesPart exchanged item part other left
+        → ExchangesAt exchanged old number part (set old place (slot_of slot.number other)) left
+    exchanged_with part left None other is none same = grind (arith, is, none, same, set_same old place slot at)
+    exchanged_with part left (Some item) other is there changes =
+        let same = (numbered slot rises its at).0 in
+        let replaces : Replaces old place other (Some item) (set old place (slot_of number other)) =
+        record { slot = slot; at = at; found_is = sym is; left = grind (arith, same) } in
+        let put = replaced there.before there.after number there.is there.place_is replaces in
+        grind (
+          arith,
+          same,
+          changes,
+          there.is,
+          put,
+          item_held there,
+          here number item changes.0 there.after there.before there.none,
+          length-append {A = Slot T},
+        )
+
+    pub exchanged_at : (part left : P) (other : Option T) → ExchangesPart exchanged slot.item part other left
+        → ExchangesAt exchanged old number part (set old place (slot_of slot.number other)) left
+    exchanged_at part left other = exchanged_with part left slot.item other refl (numbered slot rises its at).1
 
   -- ---- slots closed up
 

@@ -2,7 +2,7 @@
 use Rattle.std.specs.Prelude.{◌≡◌, ℕ, ◌+◌, ◌-◌, ◌*◌, ◌^◌, ◌<◌, ◌≤◌, zero, suc, List, [], ◌∷◌, ◌++◌, length, Option, None, Some, MatchOption, IfSome, filter, set, Bool, not, nat_lt, if◌then◌else◌}
 use Rattle.std.specs.Ordering.{nat_cmp}
 use Rattle.std.specs.BTreeMap.{is_at}
-use Rattle.std.specs.Map.{lookup}
+use Rattle.std.specs.Map.{lookup, set_value}
 use Rattle.std.specs.Option.{is_some}
 use Rattle.recovery_queue.specs.declared.slots.Slot.{Slot}
 
@@ -129,6 +129,24 @@ pub record Replaces {T : Type 0} (old : List (Slot T)) (place : ℕ) (item found
   pub at : IsSlotAt old place slot
   pub found_is : found ≡ slot.item
   pub left : new ≡ set old place (record { number = slot.number; item = item })
+
+-- a part of an item, if there is one, is exchanged
+abbrev pub ExchangesPart : {T P : Type 0} → (T → P → T → P → Type 0) → Option T → P → Option T → P → Type 0
+ExchangesPart exchanged None part new left = (new ≡ None) × (left ≡ part)
+ExchangesPart {T} exchanged (Some item) part new left =
+    (other : T) × (new ≡ Some other) × exchanged item part other left
+
+-- another item is stored under a number, in the same slot
+pub record Rewrites {T : Type 0} (old : List (Slot T)) (number : ℕ) (other : T) (new : List (Slot T)) : Type 0 where
+  pub entries : entries_in new ≡ set_value (is_at (nat_cmp number)) (entries_in old) other
+  pub kept : length new ≡ length old
+
+-- a part of the item stored under a number, if there is one, is exchanged
+abbrev pub ExchangesAt : {T P : Type 0} → (T → P → T → P → Type 0) → List (Slot T) → ℕ → P → List (Slot T) → P
+    → Type 0
+ExchangesAt {T} exchanged old number part new left = MatchOption (item_at old number)
+    ((new ≡ old) × (left ≡ part))
+    (λ item. (other : T) × exchanged item part other left × Rewrites old number other new)
 
 -- every number is below this one
 abbrev pub IsAboveAll : {T : Type 0} → List (ℕ × T) → ℕ → Type 0

@@ -1,5 +1,5 @@
 //! A queue of item numbers.
-ghost use Rattle.std.specs.Prelude.{◌≡◌, ◌<◌, IfOk, OnErr, length};
+ghost use Rattle.std.specs.Prelude.{◌≡◌, ◌<◌, ◌++◌, IfOk, OnOk, OnErr, length};
 ghost use Rattle.recovery_queue.specs.Items.{item_words};
 
 use crate::queue::RetransmitQueue;
@@ -72,6 +72,24 @@ impl ItemQueue {
     }
 }
 
+/// Appends other items. `AllocError` changes nothing.
+#[inline(never)]
+fn join(
+    items: &mut SmallVec<u64, INLINE>,
+    others: &mut SmallVec<u64, INLINE>,
+) -> Result<(), AllocError>
+    ensures ok { OnOk result (items.new.items ≡ items.old.items ++ others.old.items) }
+    ensures err { OnErr result ((items.new ≡ items.old) × (others.new ≡ others.old)) }
+{
+    if others.len() == 1 {
+        // One item is common, and cheaper to push than a list is to move.
+        items.reserve(1)?;
+        items.push_reserved(others.as_slice()[0]);
+        return Ok(());
+    }
+    items.append(others)
+}
+
 impl RetransmitQueue for ItemQueue {
     ghost use Rattle.std.specs.Prelude.{refl};
     ghost use Rattle.std.proofs.Common.{append-nil};
@@ -103,14 +121,15 @@ impl RetransmitQueue for ItemQueue {
     }
 
     /// Appends the other queue's items. It allocates only if both queues have items, and three or more together.
+    #[inline(always)]
     fn append(&mut self, mut other: Self) -> Result<(), Self> {
         if self.items.is_empty() {
             *self = other;
             return Ok(());
         }
-        match self.items.append(&mut other.items) {
+        match join(&mut self.items, &mut other.items) {
             Ok(()) => Ok(()),
-            Err(_) => Err(other),
+            Err(AllocError) => Err(other),
         }
     }
 

@@ -1,11 +1,11 @@
 //! A queue of slots in the order of their numbers.
 ghost use Rattle.std.specs.Prelude.{◌≡◌, ℕ, ◌+◌, ◌-◌, ◌^◌, ◌<◌, ◌≤◌, ◌∷◌, ◌++◌, [], length, drop, filter, slice_index_or, Some, None, Decides, IfSome, IfNone, IfOk, OnOk, OnErr, MatchOption, MatchResult};
 ghost use Rattle.std.specs.VecDeque.{deque_len, deque_capacity};
-ghost use Rattle.std.specs.Option.{option_copied, option_map_or};
+ghost use Rattle.std.specs.Option.{is_some, option_copied, option_map_or};
 ghost use Rattle.std.specs.Ordering.{nat_cmp};
 ghost use Rattle.std.specs.BTreeMap.{is_at};
 ghost use Rattle.std.specs.Map.{remove_entry};
-ghost use Rattle.recovery_queue.specs.Slots.{entries_in, item_at, AreSlotsIncreasing, IsFiledAt, IsNumberAt, Divides, Encloses, IsHeldAt, IsEmptyAt, IsAboveAll, IsClosedUp, IsFrontEmpty, IsBackFrom, Replaces, IsIncreasing, LeavesNoneOut, IsFirst, IsFirstWith, IsLast, FindsSlot, IsWithinDigits, CompactsSlots, RemovesSlot, trimmed, AreFrom, IsWithinWalk, entries_from, first_entry, first_number, is_below, is_filled};
+ghost use Rattle.recovery_queue.specs.Slots.{entries_in, item_at, AreSlotsIncreasing, IsFiledAt, IsNumberAt, Divides, Encloses, IsHeldAt, IsEmptyAt, IsAboveAll, IsClosedUp, IsFrontEmpty, IsBackFrom, Replaces, ExchangesPart, ExchangesAt, IsIncreasing, LeavesNoneOut, IsFirst, IsFirstWith, IsLast, FindsSlot, IsWithinDigits, CompactsSlots, RemovesSlot, trimmed, AreFrom, IsWithinWalk, entries_from, first_entry, first_number, is_below, is_filled};
 
 mod looks;
 
@@ -23,6 +23,16 @@ const SLACK: usize = 64;
 struct Slot<T> {
     number: u64,
     item: Option<T>,
+}
+
+/// An item with a part that can be exchanged for another in place.
+pub trait Exchange<P> {
+    /// What an exchange does to the item and to the part.
+    ghost exchanged: { Self → P → Self → P → Type 0 };
+
+    /// Exchanges the part.
+    fn exchange(&mut self, part: &mut P)
+        ensures { exchanged self.old part.old self.new part.new };
 }
 
 /// Items stored under increasing numbers.
@@ -230,7 +240,7 @@ impl<T: Drop> SlotQueue<T> {
 
     /// Puts another item, or none, into the slot at a position, and returns what was in it.
     #[inline(always)]
-    pub fn replace(&mut self, place: usize, item: Option<T>) -> Option<T>
+    fn replace(&mut self, place: usize, item: Option<T>) -> Option<T>
         requires { place < length self.old }
         ensures { Replaces self.old place item result self.new }
     {
@@ -239,6 +249,22 @@ impl<T: Drop> SlotQueue<T> {
         let old = mem::replace(&mut slot.item, item);
         self.filled -= usize::from(old.is_some());
         old
+    }
+
+    /// Exchanges a part of the item stored under a number. The item is not moved. Returns false and changes nothing if
+    /// nothing is stored under the number. Cost: that of `find`, plus the exchange.
+    #[inline(always)]
+    pub fn exchange<P>(&mut self, number: u64, part: &mut P) -> bool
+    where
+        T: Exchange<P>,
+        ensures found { result ≡ is_some (item_at self.old number) }
+        ensures after { ExchangesAt T.exchanged self.old number part.old self.new part.new }
+    {
+        let Some(place) = self.place_of(number) else {
+            return false;
+        };
+        let slot = &mut self.slots[place];
+        exchange_in(&mut slot.item, part)
     }
 
     /// Makes room for this many more slots, with at most one allocation: pushes do not allocate until they are used.
@@ -440,6 +466,22 @@ fn halve<T>(looks: &mut Looks<'_, T>, number: u64, from: usize, to: usize) -> Re
         }
     }
     Err(low)
+}
+
+/// Exchanges a part of an item, if there is one. Returns whether there is.
+#[inline(always)]
+fn exchange_in<T: Exchange<P>, P>(item: &mut Option<T>, part: &mut P) -> bool
+    ensures found { result ≡ is_some item.old }
+    ensures filled { result ≡ is_some item.new }
+    ensures after { ExchangesPart T.exchanged item.old part.old item.new part.new }
+{
+    match item {
+        Some(item) => {
+            item.exchange(part);
+            true
+        }
+        None => false,
+    }
 }
 
 /// Drops the empty slots before the first filled one. Returns the number of that one, or `first` if there is none.

@@ -3,14 +3,15 @@
 use Rattle.std.proofs.lemmas.Bool.Decides.{nat_tests}
 use Rattle.std.proofs.Common.{◌≡◌, Bool, MatchOption, ℕ, ◌+◌, ◌-◌, ◌^◌, ◌<◌, ◌≤◌, min, max, true, false, [], ◌∷◌, ◌++◌, length, filter, Option, None, Some, refl, arith, length-append, IfSome}
 use Rattle.recovery_queue.specs.Queues.{QueueSemantics, IsVoid}
-use Rattle.recovery_queue.specs.Slots.{Divides, entries_in, item_at, FindsSlot, IsHeldAt, first_number, is_from, AreFrom, IsClosedUp}
-use Rattle.recovery_queue.proofs.SlotEntryLaws.{entries_fit, taken, item_held, filed}
+use Rattle.recovery_queue.specs.Slots.{Divides, entries_in, item_at, FindsSlot, IsHeldAt, first_number, is_from, AreFrom, IsClosedUp, ExchangesAt, Rewrites}
+use Rattle.recovery_queue.proofs.SlotEntryLaws.{entries_fit, item_held, filed}
 use Rattle.recovery_queue.proofs.SlotLaws.{Slots, slot_within}
 use Rattle.recovery_spaces.specs.Probes.{first_filled}
 use Rattle.recovery_spaces.specs.Places.{HasSlots, IsPlaceOf, FindsPacket}
-use Rattle.recovery_spaces.specs.Packets.{Packet, Packets, AreBelow, packet_at, without, replaced, with_contents, is_above, least_number, IsAboveLast}
+use Rattle.recovery_spaces.specs.Packets.{Packet, Packets, AreBelow, packet_at, without, replaced, with_contents, is_above, least_number, IsAboveLast, ExchangesContents}
 use Rattle.recovery_spaces.specs.Counts.{silent_count, eliciting_count, size_count, elicits_count, AreCounted, AreAboveFrom, AreTracked, AreVoidBelow}
 use Rattle.recovery_spaces.proofs.PacketLaws.{AllBelow-push, sum-without, sum-replaced, number_at, AllBelow, all_below, are_below, found-append}
+use Rattle.std.specs.Option.{is_some}
 use Rattle.std.proofs.lemmas.List.Sums.{sum_by_push}
 use Rattle.recovery_spaces.proofs.CountLaws.{none_above, counted_taken}
 
@@ -239,9 +240,28 @@ module _ {P M S : Type 0} (words : QueueSemantics P S) where
 
 -- ---- a packet's contents are exchanged
 
--- what is left after a packet was removed from its slot and put back with other contents
-pub record Exchanges {P M : Type 0} (slots : Slots (Packet P M)) (number : ℕ) (packet : Packet P M)
-    (contents : P) (new : Slots (Packet P M)) : Type 0 where
+-- a packet has other contents, in the same slot
+pub record Exchanges {P M : Type 0} (slots : Slots (Packet P M)) (number : ℕ) (contents : P)
+    (new : Slots (Packet P M)) : Type 0 where
+  pub packet : Packet P M
   pub found : packet_at (entries_in slots) number ≡ Some packet
   pub entries : entries_in new ≡ replaced number (Some (with_contents contents packet)) (entries_in slots)
   pub kept : length new ≡ length slots
+
+module _ {Q P M : Type 0} (contents : Q → P) (slots new : Slots (Packet P M)) (number : ℕ) (queue left : Q) where
+  exchanged_with : (item : Option (Packet P M)) → item_at slots number ≡ item → is_some item ≡ true
+      → MatchOption item ((new ≡ slots) × (left ≡ queue)) (λ packet. (other : Packet P M)
+      × ExchangesContents contents packet queue other left × Rewrites slots number other new)
+      → Exchanges slots number (contents queue) new
+  exchanged_with (Some packet) is some (other, changes, rewrites) = record {
+    packet = packet;
+    found = is;
+    entries = grind (arith, rewrites.entries, changes.0);
+    kept = rewrites.kept;
+  }
+  exchanged_with None is some changes = grind (arith, some)
+
+  pub exchanged : is_some (item_at slots number) ≡ true
+      → ExchangesAt (ExchangesContents contents) slots number queue new left
+      → Exchanges slots number (contents queue) new
+  exchanged some changes = exchanged_with (item_at slots number) refl some changes

@@ -50,6 +50,11 @@ carrying number contents packets =
 abbrev pub contents_or : {P M : Type 0} → P → Option (Packet P M) → P
 contents_or other packet = option_map_or (λ there. there.retransmits) packet other
 
+-- a packet is left with the contents of a queue, and the queue with those of the packet
+abbrev pub ExchangesContents : {Q P M : Type 0} → (Q → P) → Packet P M → Q → Packet P M → Q → Type 0
+ExchangesContents contents old queue new left =
+    (new ≡ with_contents (contents queue) old) × (contents left ≡ old.retransmits)
+
 -- every packet has a number below this one
 abbrev pub AreBelow : {P M : Type 0} → Packets P M → ℕ → Type 0
 AreBelow {P} {M} packets limit =

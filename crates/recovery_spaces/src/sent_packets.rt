@@ -12,7 +12,7 @@ ghost use Rattle.recovery_spaces.specs.Counts.{silent_count, size_count, elicits
 use crate::spaces::SentPacket;
 use recovery_base::below::NoMemory;
 use recovery_queue::queue::RetransmitQueue;
-use recovery_queue::slots::SlotQueue;
+use recovery_queue::slots::{Exchange, SlotQueue};
 use std::alloc::Global;
 use std::marker::Model;
 use std::mem;
@@ -226,15 +226,11 @@ where
         ensures queue { Q.contents queue.new
             ≡ contents_or (Q.contents queue.old) (packet_at self.old.packets number) }
     {
-        let Some(place) = self.packets.find(number).0 else {
+        let from = filled_with(self.filled_from, number, queue);
+        if !self.packets.exchange(number, queue) {
             return false;
-        };
-        let Some(mut packet) = self.packets.replace(place, None) else {
-            unreachable!();
-        };
-        self.filled_from = filled_with(self.filled_from, number, queue);
-        mem::swap(&mut packet.retransmits, queue);
-        self.packets.replace(place, Some(packet));
+        }
+        self.filled_from = from;
         true
     }
 
@@ -303,6 +299,18 @@ where
         ensures { Decides result (HasSize self.now.packets) }
     {
         self.sized != 0
+    }
+}
+
+/// Its queue is the part of a packet that is exchanged.
+impl<Q: RetransmitQueue> Exchange<Q> for SentPacket<Q> {
+    ghost use Rattle.recovery_spaces.specs.Packets.{ExchangesContents};
+
+    ghost exchanged = { ExchangesContents Q.contents };
+
+    #[inline(always)]
+    fn exchange(&mut self, queue: &mut Q) {
+        mem::swap(&mut self.retransmits, queue);
     }
 }
 
