@@ -1,3 +1,4 @@
+pub mod OnlyPtoLaws
 pub mod EventLaws
 pub mod ExtendedLaws
 pub mod RenewLaws

@@ -1,5 +1,5 @@
 -- An RTT sample by the events before an ACK frame.
-use Rattle.std.proofs.Common.{◌≡◌, ◌≢◌, ◌≤◌, ◌⊎◌, ℕ, ◌-◌, ◌==◌, ◌&&◌, nat_le, inl, inr, Bool, true, false, true≢false, List, [], ◌∷◌, Option, None, Some, refl, sym, ap, subst, ◌∙◌, leb-true, arith}
+use Rattle.std.proofs.Common.{◌≡◌, ℕ, ◌-◌, ◌==◌, ◌&&◌, nat_le, inl, inr, Bool, true, false, true≢false, List, [], ◌∷◌, Option, None, Some, refl, sym, ap, ◌∙◌, leb-true, arith}
 use Rattle.std.specs.Prelude.{option_map, if◌then◌else◌}
 use Rattle.std.specs.Option.{option_and_then}
 use Rattle.std.proofs.lemmas.Option.{none-some, same_Some}
@@ -14,8 +14,8 @@ use Rattle.recovery_history.specs.History.{History, begins, queue_model}
 use Rattle.recovery_history.specs.Reachability.{ReachedBy}
 use Rattle.recovery_sender.specs.Acking.{rtt_of, sent_here, sent_on}
 use Rattle.recovery_sender.specs.Acks.{AreNewlyAcked, HasAckEliciting}
-use Rattle.recovery_sender.specs.Promises.Lost.{elicits_by, sent_at}
-use Rattle.recovery_sender.specs.Promises.RttSampled.{IsSampleOf, SamplesByPast}
+use Rattle.recovery_sender.specs.Promises.Lost.{elicits_by}
+use Rattle.recovery_sender.specs.Promises.RttSampled.{SamplesByPast}
 use Rattle.recovery_sender.specs.Senders.{state_in}
 use Rattle.recovery_sender.specs.Spaces.{packets_in}
 use Rattle.recovery_sender.specs.declared.sender.Sender.{Sender}

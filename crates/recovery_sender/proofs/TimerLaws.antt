@@ -1,5 +1,5 @@
 -- The loss detection timer: its inputs, and that setting it changes none of them.
-use Rattle.std.proofs.Common.{◌≡◌, ℕ, true, false, Bool, [], ◌∷◌, Option, None, Some, option_map, Ok, Err, ◌||◌, IsTrue, ◌⊎◌, refl, ap, subst, inl, inr}
+use Rattle.std.proofs.Common.{◌≡◌, ℕ, true, false, Bool, [], ◌∷◌, Option, None, Some, option_map, Ok, Err, ◌||◌, IsTrue, ◌⊎◌, refl, ap, subst, inl, inr, ◌∙◌}
 use Rattle.std.specs.Bool.{Decides, one_answer}
 use Rattle.recovery_base.specs.declared.below.SpaceId.{SpaceId}
 use Rattle.recovery_base.specs.declared.below.SpaceId.TheVariants.{Initial, Handshake, Data}
@@ -27,7 +27,7 @@ use Rattle.quic_recovery.specs.State.{ReadOnlyTransition}
 use Rattle.recovery_losses.specs.declared.due.Due.{Due}
 use Rattle.recovery_losses.specs.declared.variables.Variables.{Variables}
 use Rattle.recovery_sender.specs.Steps.{StepsLeadTo, told, timed, timer_event}
-use Rattle.recovery_sender.specs.Timer.{due_of, has_eliciting, TimerIsSet}
+use Rattle.recovery_sender.specs.Timer.{due_of, has_eliciting, only_pto, IsOnlyPto, TimerIsSet}
 
 -- ---- ack-eliciting packets
 
@@ -65,6 +65,11 @@ with_seen recovery seen = record recovery {
 due_same : {K P M : Type 0} (variables : Variables) (old new : RecoveryState K P M) → seen_in new ≡ seen_in old
     → due_of new variables ≡ due_of old variables
 due_same {K} {P} {M} variables old new same = ap (λ (seen : Seen K P M). due_of (with_seen old seen) variables) same
+
+pto_same : {K P M : Type 0} (variables : Variables) (old new : RecoveryState K P M) → seen_in new ≡ seen_in old
+    → only_pto new variables ≡ only_pto old variables
+pto_same {K} {P} {M} variables old new same =
+    ap (λ (seen : Seen K P M). only_pto (with_seen old seen) variables) same
 
 seen_of : {K P M : Type 0} → Space P M → Space P M → Space P M → DiscardedSpaces → PathState K → Seen K P M
 seen_of initial handshake one_rtt discarded state =
@@ -140,6 +145,14 @@ module _ {F K Q S M P : Type 0} (built : F → ℕ → ℕ → K) (words : Contr
 
 module _ {F K Q S M P : Type 0} (built : F → ℕ → ℕ → K) (words : ControllerSemantics K) (queue : QueueModel Q S M P)
     (variables : Variables) (old : RecoveryState K P M) (answer : Answer Q) where
+  -- the only probe timeout that may be due still is
+  pub still_only : (new : RecoveryState K P M) (known : Option ℕ)
+      → StepsLeadTo built words queue (told (timer_event (due_of old variables)) (Ok answer) ∷ []) old new
+      → IsOnlyPto old variables known → IsOnlyPto new variables known
+  still_only new known (between, changes, extends, is) only = λ pto at.
+      rw is (pto_same variables old between (seen_by_timer queue old between (due_of old variables) answer changes)
+      ∙ only pto at)
+
   -- once it is set to what is due, it is set to what is due then
   pub timer_sets : (new : RecoveryState K P M)
       → StepsLeadTo built words queue (told (timer_event (due_of old variables)) (Ok answer) ∷ []) old new

@@ -1,7 +1,7 @@
 -- The timer is due at the same time if none of its inputs changes.
-use Rattle.std.proofs.Common.{◌≡◌, ℕ, true, false, Bool, Option, None, Some, option_map, Ok, ◌⊎◌, refl, ap, sym, inl, inr, true≢false, ◌∙◌}
+use Rattle.std.proofs.Common.{◌≡◌, ℕ, true, false, Bool, Option, None, Some, option_map, Ok, ◌⊎◌, refl, ap, subst, sym, inl, inr, true≢false, ◌∙◌}
 use Rattle.std.specs.Prelude.{if◌then◌else◌, min, not, ◌&&◌, ◌||◌}
-use Rattle.std.specs.Option.{option_and_then, option_map_or, option_or}
+use Rattle.std.specs.Option.{is_some, option_and_then, option_map_or, option_or}
 use Rattle.recovery_base.specs.declared.below.SpaceId.{SpaceId}
 use Rattle.recovery_base.specs.declared.below.SpaceId.TheVariants.{Initial, Handshake, Data}
 use Rattle.recovery_base.specs.declared.timer.Timer.TheVariants.{LossDetection}
@@ -39,7 +39,7 @@ use Rattle.recovery_sender.specs.Calls.{transmit_steps}
 use Rattle.recovery_sender.specs.TimerUnchanged.{leaves_timer}
 use Rattle.recovery_sender.specs.Steps.{StepsLeadTo}
 use Rattle.recovery_losses.specs.Variables.{ack_delay_in, is_address_validated}
-use Rattle.recovery_sender.specs.Timer.{behind, deadlock_by, deadlock_due, due_of, has_eliciting, loss_due, may_deadlock, probe_due, probe_in, pto_of, rtt_or, soonest, tracks_eliciting, waits, TimerIsSet}
+use Rattle.recovery_sender.specs.Timer.{IsOnlyPto, behind, competes, deadlock_by, deadlock_due, due_of, has_eliciting, loss_due, may_deadlock, probe_due, probe_in, only_pto, pto_of, rtt_or, soonest, tracks_eliciting, waits, TimerIsSet}
 
 -- ---- the inputs of a space
 
@@ -100,6 +100,86 @@ AllSame one other = (space : SpaceId) → one space ≡ other space
 soonest_same : (one other : SpaceId → Option (ℕ × Due)) → AllSame one other → soonest one ≡ soonest other
 soonest_same one other same = rw (same Initial, same Handshake, same Data) refl
 
+-- ---- nothing but a probe of 1-RTT packets may be due
+
+abbrev pub only_if : Bool → Bool → Bool → Bool → Bool → Bool → ℕ → Option ℕ
+only_if initial handshake gone lost blocked waits pto = if initial || handshake then None
+    else if gone then None else if lost || blocked || waits then None else Some pto
+
+module _ {K P M : Type 0} (variables : Variables) where
+  abbrev pub lost_in : RecoveryState K P M → Bool
+  lost_in recovery = is_some (space_of Data recovery.spaces).loss_time
+
+  pub only_of : (recovery : RecoveryState K P M) → only_pto recovery variables
+      ≡ only_if (competes recovery variables Initial) (competes recovery variables Handshake)
+      (is_discarded Data recovery.discarded) (lost_in recovery) (is_blocked recovery.paths.current.state 1)
+      (not variables.is_handshake_confirmed) (pto_of recovery variables Data)
+  only_of recovery = go (competes recovery variables Initial || competes recovery variables Handshake)
+      (is_discarded Data recovery.discarded)
+    where
+      go : (more gone : Bool)
+          → (if more then None else option_and_then (λ (here : Space P M). if is_some here.loss_time
+          || is_blocked recovery.paths.current.state 1 || not variables.is_handshake_confirmed then None
+          else Some (pto_of recovery variables Data)) (if gone then None else Some (space_of Data recovery.spaces)))
+          ≡ (if more then None else if gone then None else if lost_in recovery
+          || is_blocked recovery.paths.current.state 1 || not variables.is_handshake_confirmed then None
+          else Some (pto_of recovery variables Data))
+      go true gone = refl
+      go false true = refl
+      go false false = refl
+
+  pub only_by_parts : (old new : RecoveryState K P M)
+      → competes new variables Initial ≡ competes old variables Initial
+      → competes new variables Handshake ≡ competes old variables Handshake
+      → lost_in new ≡ lost_in old → new.discarded ≡ old.discarded
+      → is_blocked new.paths.current.state 1 ≡ is_blocked old.paths.current.state 1
+      → pto_of new variables Data ≡ pto_of old variables Data
+      → only_pto new variables ≡ only_pto old variables
+  only_by_parts old new initial handshake lost discarded blocked pto =
+      let gone = ap (is_discarded Data) discarded in
+      let same : (
+        competes new variables Initial,
+        competes new variables Handshake,
+        is_discarded Data new.discarded,
+        lost_in new,
+        is_blocked new.paths.current.state 1,
+        pto_of new variables Data,
+      )
+      ≡ (
+        competes old variables Initial,
+        competes old variables Handshake,
+        is_discarded Data old.discarded,
+        lost_in old,
+        is_blocked old.paths.current.state 1,
+        pto_of old variables Data,
+      ) = cc in
+      only_of new ∙ ap (λ (it : Bool × Bool × Bool × Bool × Bool × ℕ). only_if it.0 it.1 it.2 it.3 it.4
+      (not variables.is_handshake_confirmed) it.5) same ∙ sym (only_of old)
+
+-- ---- what is known of the timer
+
+abbrev Timing : Type 0
+Timing = Option ℕ × Option (ℕ × Due) × Option ℕ
+
+module _ {K P M : Type 0} where
+  abbrev pub timing_in : RecoveryState K P M → Variables → Timing
+  timing_in recovery variables =
+      (moment LossDetection recovery.timers, due_of recovery variables, only_pto recovery variables)
+
+  -- the timer is set if it was, and what was known of it is
+  abbrev pub KeepsTiming : RecoveryState K P M → Variables → RecoveryState K P M → Variables → Type 0
+  KeepsTiming old before new after = (TimerIsSet old before → TimerIsSet new after)
+      × ((known : Option ℕ) → IsOnlyPto old before known → IsOnlyPto new after known)
+
+  pub keeps_timing : (old new here : RecoveryState K P M) (before after given : Variables) → here ≡ new → given ≡ after
+      → timing_in new after ≡ timing_in old before → KeepsTiming old before here given
+  keeps_timing old new here before after given is_here is_given kept =
+      let same = ap (λ (at : RecoveryState K P M). timing_in at given) is_here
+      ∙ ap (λ at. timing_in new at) is_given ∙ kept in (
+        subst (λ (timing : Timing). timing.0 ≡ option_map (λ due. due.0) timing.1) (sym same),
+        λ known is pto at. subst (λ (timing : Timing). timing.2 ≡ Some pto) (sym same) (is pto at),
+      )
+
 abbrev either_due : Option (ℕ × Due) → Bool → Option (ℕ × Due) → Option (ℕ × Due) → Option (ℕ × Due)
 either_due losses blocked probes deadlock = option_or losses (if blocked then None else option_or probes deadlock)
 
@@ -157,21 +237,41 @@ module _ {K P M : Type 0} (variables : Variables) (old new : RecoveryState K P M
 
   pub due_kept : due_of new variables ≡ due_of old variables
   due_kept =
-      let losses = soonest_same _ _ losses_same in
-      let probes = soonest_same _ _ probes_same in
-      ap (λ due. either_due due (is_blocked new.paths.current.state 1) (soonest (probe_due new variables))
-      (deadlock_due new variables)) losses
-      ∙ ap (λ is. either_due (soonest (loss_due old)) is (soonest (probe_due new variables))
-      (deadlock_due new variables)) blocked
-      ∙ ap (λ due. either_due (soonest (loss_due old)) (is_blocked old.paths.current.state 1) due
-      (deadlock_due new variables)) probes
-      ∙ ap (λ due. either_due (soonest (loss_due old)) (is_blocked old.paths.current.state 1)
-      (soonest (probe_due old variables)) due) deadlock_same
+      let losses = soonest_same (loss_due new) (loss_due old) losses_same in
+      let probes = soonest_same (probe_due new variables) (probe_due old variables) probes_same in
+      let deadlock = deadlock_same in
+      let same : (
+        soonest (loss_due new),
+        is_blocked new.paths.current.state 1,
+        soonest (probe_due new variables),
+        deadlock_due new variables,
+      ) ≡ (
+        soonest (loss_due old),
+        is_blocked old.paths.current.state 1,
+        soonest (probe_due old variables),
+        deadlock_due old variables,
+      ) = cc in
+      ap (λ (it : Option (ℕ × Due) × Bool × Option (ℕ × Due) × Option (ℕ × Due)). either_due it.0 it.1 it.2 it.3) same
 
-  -- the timer that was set is set
-  pub set_still : new.timers ≡ old.timers → TimerIsSet old variables → TimerIsSet new variables
-  set_still timers set = ap (moment LossDetection) timers ∙ set
-      ∙ ap (λ (due : Option (ℕ × Due)). option_map (λ due. due.0) due) (sym due_kept)
+  competes_same : (space : SpaceId) → competes new variables space ≡ competes old variables space
+  competes_same space = rw discarded (go (is_discarded space old.discarded))
+    where
+      go : (gone : Bool)
+          → option_map_or (λ (here : Space P M). is_some here.loss_time || has_eliciting (packets_of here))
+          (if gone then None else Some (space_of space new.spaces)) false
+          ≡ option_map_or (λ (here : Space P M). is_some here.loss_time || has_eliciting (packets_of here))
+          (if gone then None else Some (space_of space old.spaces)) false
+      go true = refl
+      go false = ap (λ (read : Read P M). is_some read.1 || has_eliciting read.0) (spaces space)
+
+  only_same : only_pto new variables ≡ only_pto old variables
+  only_same = only_by_parts variables old new (competes_same Initial) (competes_same Handshake)
+      (ap (λ (read : Read P M). is_some read.1) (spaces Data)) discarded blocked (pto_same Data)
+
+  -- what is known of the timer stays
+  pub timing_same : new.timers ≡ old.timers → timing_in new variables ≡ timing_in old variables
+  timing_same timers =
+      let set = ap (moment LossDetection) timers in let due = due_kept in let only = only_same in cc
 
 -- ---- by events
 
@@ -182,14 +282,14 @@ module _ {K P M : Type 0} (variables : Variables) (old new : RecoveryState K P M
   same_set : ((space : SpaceId) → read_of (space_of space new.spaces) ≡ read_of (space_of space old.spaces))
       → new.paths.current.state.rtt ≡ old.paths.current.state.rtt
       → is_blocked new.paths.current.state 1 ≡ is_blocked old.paths.current.state 1
-      → plain_same (plain_of new) ≡ plain_same (plain_of old) → TimerIsSet old variables → TimerIsSet new variables
-  same_set spaces rtt blocked plain = set_still variables old new spaces
+      → plain_same (plain_of new) ≡ plain_same (plain_of old) → timing_in new variables ≡ timing_in old variables
+  same_set spaces rtt blocked plain = timing_same variables old new spaces
       (ap (λ (it : DiscardedSpaces × TimerTable). it.0) plain) rtt blocked
       (ap (λ (it : DiscardedSpaces × TimerTable). it.1) plain)
 
   by_spaces : ((space : SpaceId) → read_of (space_of space new.spaces) ≡ read_of (space_of space old.spaces))
       → paths_known new.paths ≡ paths_known old.paths → plain_same (plain_of new) ≡ plain_same (plain_of old)
-      → TimerIsSet old variables → TimerIsSet new variables
+      → timing_in new variables ≡ timing_in old variables
   by_spaces spaces paths plain =
       let state : new.paths.current.state ≡ old.paths.current.state =
       ap (λ (known : PerPath (PathReplyInputs K)). known.current.state) paths in
@@ -210,7 +310,7 @@ module _ {K Q S M P : Type 0} (queue : QueueModel Q S M P) (variables : Variable
       (space_of there new.spaces) entry quiet (same_space space there) (steps there)
 
   pub left_by : (event : Event Q S M P) (answer : Answer Q) → leaves_timer event ≡ true
-      → StateTransition queue old event (Ok answer) new → TimerIsSet old variables → TimerIsSet new variables
+      → StateTransition queue old event (Ok answer) new → timing_in new variables ≡ timing_in old variables
   left_by (Received space now number eliciting) (answers.New arm) is changes =
       by_spaces variables old new (quietly space (heard now number eliciting) tt changes.steps.spaces)
       changes.steps.paths (ap plain_same changes.plain)
@@ -256,7 +356,7 @@ module _ {K Q S M P : Type 0} (queue : QueueModel Q S M P) (variables : Variable
     by_path : ((space : SpaceId) → space_of space new.spaces ≡ space_of space old.spaces)
         → new.paths.current.state.rtt ≡ old.paths.current.state.rtt
         → new.paths.current.state.validated ≡ old.paths.current.state.validated → plain_of new ≡ plain_of old
-        → TimerIsSet old variables → TimerIsSet new variables
+        → timing_in new variables ≡ timing_in old variables
     by_path spaces rtt validated plain =
         same_set variables old new (λ there. ap read_of (spaces there)) rtt
         (unblocked variables old new unlimited (validated ∙ unlimited)) (ap plain_same plain)
@@ -266,7 +366,7 @@ module _ {K Q S M P : Type 0} (queue : QueueModel Q S M P) (variables : Variable
 
     pub received_in : (bytes : ℕ) (answer : Answer Q) → StateTransition queue old (DatagramIn Current bytes)
         (Ok answer) new
-        → TimerIsSet old variables → TimerIsSet new variables
+        → timing_in new variables ≡ timing_in old variables
     received_in bytes answer changes =
         let state = ap current_of changes.steps.paths in
         by_path changes.steps.spaces (ap (λ (state : PathState K). state.rtt) state)
@@ -275,7 +375,7 @@ module _ {K Q S M P : Type 0} (queue : QueueModel Q S M P) (variables : Variable
     transmitted_in : (now bytes : ℕ) (checked : Bool) (answer : Answer Q)
         → (answer ≡ answers.Transmitted) ⊎ ((until : ℕ) × (answer ≡ answers.Delayed until))
         → StateTransition queue old (Transmit now bytes checked) (Ok answer) new
-        → TimerIsSet old variables → TimerIsSet new variables
+        → timing_in new variables ≡ timing_in old variables
     transmitted_in now bytes true answers.Transmitted either changes =
         let state = ap current_of changes.steps.paths in
         by_path changes.steps.spaces (ap (λ (state : PathState K). state.rtt) state)
@@ -296,10 +396,10 @@ module _ {F K Q S M P : Type 0} (built : F → ℕ → ℕ → K) (words : Contr
     (variables : Variables) (old new : RecoveryState K P M) (unlimited : old.paths.current.state.validated ≡ true) where
   pub transmitted_left : (now bytes : ℕ) (checked : Bool) (sent : Transmission)
       → StepsLeadTo built words queue (transmit_steps now bytes checked sent) old new
-      → TimerIsSet old variables → TimerIsSet new variables
-  transmitted_left now bytes checked transmissions.Transmitted (between, changes, extends, is) set = rw is
-      (transmitted_in queue variables old between unlimited now bytes checked _ (inl refl) changes set)
-  transmitted_left now bytes checked (transmissions.Delayed until) (between, changes, extends, is) set = rw is
-      (transmitted_in queue variables old between unlimited now bytes checked _ (inr (until, refl)) changes set)
-  transmitted_left now bytes checked transmissions.Blocked is set = rw is set
-  transmitted_left now bytes checked transmissions.Full is set = rw is set
+      → timing_in new variables ≡ timing_in old variables
+  transmitted_left now bytes checked transmissions.Transmitted (between, changes, extends, is) = rw is
+      (transmitted_in queue variables old between unlimited now bytes checked _ (inl refl) changes)
+  transmitted_left now bytes checked (transmissions.Delayed until) (between, changes, extends, is) = rw is
+      (transmitted_in queue variables old between unlimited now bytes checked _ (inr (until, refl)) changes)
+  transmitted_left now bytes checked transmissions.Blocked is = rw is refl
+  transmitted_left now bytes checked transmissions.Full is = rw is refl

@@ -108,6 +108,23 @@ module _ {K P M : Type 0} (recovery : RecoveryState K P M) (variables : Variable
   abbrev pub due_of : Option (ℕ × Due)
   due_of = option_or (soonest (loss_due recovery)) probes_due
 
+  -- losses or probes may be due in a space
+  abbrev pub competes : SpaceId → Bool
+  competes space =
+      option_map_or (λ here. is_some here.loss_time || has_eliciting (packets_of here)) (space_in recovery space) false
+
+  -- The probe timeout of 1-RTT packets, if nothing but a probe of them may be due: after the handshake, while no packet
+  -- is suspected lost and the path in use may send a byte.
+  abbrev pub only_pto : Option ℕ
+  only_pto = if competes Initial || competes Handshake then None
+      else option_and_then (λ here. if is_some here.loss_time || is_blocked recovery.paths.current.state 1
+      || not variables.is_handshake_confirmed then None else Some (pto_of recovery variables Data))
+      (space_in recovery Data)
+
+  -- if a probe timeout is known, it is this one
+  abbrev pub IsOnlyPto : Option ℕ → Type 0
+  IsOnlyPto known = (pto : ℕ) → known ≡ Some pto → only_pto ≡ Some pto
+
   -- the timer is set to what is due
   abbrev pub TimerIsSet : Type 0
   TimerIsSet = moment LossDetection recovery.timers ≡ option_map (λ due. due.0) due_of

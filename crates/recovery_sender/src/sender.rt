@@ -3,10 +3,11 @@ ghost use Rattle.std.specs.Prelude.{◌≡◌, true};
 ghost use Rattle.quic_recovery.specs.State.{state_of};
 ghost use Rattle.recovery_sender.specs.Bounds.{ArePathsBounded};
 ghost use Rattle.recovery_sender.specs.Promises.Samples.{IsExplained};
-ghost use Rattle.recovery_sender.specs.Timer.{TimerIsSet};
+ghost use Rattle.recovery_sender.specs.Timer.{TimerIsSet, IsOnlyPto};
 
 use quic_recovery::{LiveRecovery, Recovery};
 use rand_core::Rng;
+use recovery_base::time::Duration;
 use recovery_congestion::congestion::ControllerFactory;
 use recovery_events::event::Refusal;
 use recovery_losses::Variables;
@@ -85,9 +86,12 @@ pub struct Sender<F: ControllerFactory, Q: RetransmitQueue, R: Rng> {
     variables: Variables,
     /// Whether the loss detection timer is known to be set correctly. Then it is not set again if no input changes.
     is_timer_current: bool,
+    /// The probe timeout of 1-RTT packets, if nothing else may be due. It holds only while `is_timer_current`.
+    known_pto: Option<Duration>,
     ghost bounded: { ArePathsBounded F.Controller.words (state_of recovery.recovery) },
     ghost explained: { ∥ IsExplained recovery.recovery ∥₁ },
     ghost timed: { is_timer_current ≡ true → TimerIsSet (state_of recovery.recovery) variables },
+    ghost known: { is_timer_current ≡ true → IsOnlyPto (state_of recovery.recovery) variables known_pto },
 }
 
 impl<F, Q, R> Sender<F, Q, R>

@@ -201,6 +201,7 @@ where
             recovery,
             variables: Variables::new(side, thresholds, now),
             is_timer_current: false,
+            known_pto: None,
         };
         sender.set_loss_detection_timer();
         Ok(sender)
@@ -246,11 +247,13 @@ where
             return self.change_path(event);
         }
         let was_timed = self.is_left_by(&event);
+        let known = self.known_pto();
         let time = to_send(&event);
         let elicits = elicits_in(&event);
         match self.apply(event) {
             Ok(answer) => {
-                self.goes_on(time, elicits, &answer, was_timed);
+                self.count_sent(time, elicits, &answer);
+                self.time_on(was_timed, known);
                 Ok(answer)
             }
             Err(refusal) => Err(SenderError::Event(refusal)),
@@ -338,8 +341,9 @@ where
             return Err(SenderError::Event(Refusal::Overflow));
         }
         let was_timed = self.is_timed_unlimited();
+        let known = self.known_pto();
         self.receive(bytes);
-        self.time_on(was_timed);
+        self.time_on(was_timed, known);
         Ok(())
     }
 
@@ -360,8 +364,9 @@ where
             self.old.variables self.old self.new }
     {
         let was_timed = self.is_known_timed();
+        let known = self.known_pto();
         self.mark_challenge(challenge, pending);
-        self.time_on(was_timed);
+        self.time_on(was_timed, known);
     }
 
     /// Returns whether the timer is known to be set, and an event does not move it.

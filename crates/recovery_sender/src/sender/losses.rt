@@ -89,8 +89,8 @@ impl Losses {
         }
     }
 
-    /// Returns the same result, rebuilt field by field: else the compiler copies one that comes from a call out of line
-    /// through memory.
+    /// Returns the same result, rebuilt field by field: the compiler copies through memory what an out-of-line call
+    /// returns.
     #[inline(always)]
     fn by_field(self) -> Self
         ensures { result ≡ self }

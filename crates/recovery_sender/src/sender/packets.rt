@@ -1,5 +1,6 @@
 //! Transmissions (RFC 9002, 7; RFC 9000, 8.1).
-ghost use Rattle.std.specs.Prelude.{◌≡◌, ◌<◌, ◌≤◌, ◌+◌, ◌∷◌, [], true, false, None, Some, if◌then◌else◌, nat_lt, Ok, IfOk, OnOk, OnErr};
+ghost use Rattle.std.specs.Prelude.{◌≡◌, ◌<◌, ◌≤◌, ◌+◌, ◌∷◌, [], true, false, None, Some, if◌then◌else◌, nat_lt, Ok, IfOk, OnOk, OnErr, IfSome};
+ghost use Rattle.recovery_base.specs.declared.below.SpaceId.TheVariants.{Data};
 ghost use Rattle.recovery_base.specs.Units.{u64_limit};
 ghost use Rattle.recovery_events.specs.declared.event.Event.TheVariants.{Send};
 ghost use Rattle.recovery_spaces.specs.Discarded.{is_discarded};
@@ -10,12 +11,12 @@ ghost use Rattle.recovery_sender.specs.Promises.Window.{FitsWindow, IsByRoom};
 ghost use Rattle.recovery_sender.specs.Senders.{state_in};
 ghost use Rattle.recovery_sender.specs.Calls.{bytes_in_flight, is_checked, is_full, sent_at, sent_in, transmission, transmit_reply, transmit_steps, window_of, EventResult};
 ghost use Rattle.recovery_sender.specs.Steps.{told, TakesSteps, CompletesCall};
-ghost use Rattle.recovery_sender.specs.Timer.{TimerIsSet};
+ghost use Rattle.recovery_sender.specs.Timer.{IsOnlyPto};
 
 use super::{Sender, SenderError};
 use rand_core::Rng;
 use recovery_base::below::SpaceId;
-use recovery_base::time::Instant;
+use recovery_base::time::{Duration, Instant};
 use recovery_congestion::congestion::{Controller, ControllerFactory};
 use recovery_events::event::{Answer, Refusal};
 use recovery_queue::queue::RetransmitQueue;
@@ -116,8 +117,9 @@ where
             return Err(SenderError::Event(Refusal::Overflow));
         }
         let was_timed = self.is_timed_unlimited();
+        let known = self.known_pto();
         let sent = self.transmit_where_it_may(now, bytes, is_checked);
-        self.time_on(was_timed);
+        self.time_on(was_timed, known);
         Ok(sent)
     }
 
@@ -138,6 +140,7 @@ where
             (Send space now size ack_eliciting largest_acked queue stream_frames)
             self.old self.new result }
     {
+        let known = self.known_pto_in(space);
         let sent = self.apply_send(
             space,
             now,
@@ -149,38 +152,44 @@ where
         );
         match sent {
             Ok(answer) => {
-                self.goes_on(
-                    counted_at(now, size),
-                    eliciting_in(space, ack_eliciting),
-                    &answer,
-                    false,
-                );
+                let time = counted_at(now, size);
+                self.count_sent(time, eliciting_in(space, ack_eliciting), &answer);
+                self.move_timer(known);
                 Ok(answer)
             }
             Err(refusal) => Err(SenderError::Event(refusal)),
         }
     }
 
-    /// Records a transmission: at `time` if it counts in flight, in `space` if it is ack-eliciting (RFC 9002, 6.2.4 and
-    /// A.5). Sets the timer, unless it is known to be set.
+    /// Returns the only probe timeout that may be due, if it is known and the space is that of 1-RTT packets.
     #[inline(always)]
-    pub(super) fn goes_on(
+    fn known_pto_in(&self, space: SpaceId) -> Option<Duration>
+        ensures known { IsOnlyPto (state_in self.now) self.now.variables result }
+        ensures there { IfSome result (λ pto. space ≡ Data) }
+    {
+        if space == SpaceId::Data {
+            self.known_pto()
+        } else {
+            None
+        }
+    }
+
+    /// Records a transmission: at `time` if it counts in flight, in `space` if it is ack-eliciting (RFC 9002, 6.2.4 and
+    /// A.5). This may move the timer.
+    #[inline(always)]
+    pub(super) fn count_sent(
         &mut self,
         time: Option<Instant>,
         elicits: Option<SpaceId>,
         answer: &Answer<Q>,
-        was_timed: bool,
     )
-        requires { was_timed ≡ true → TimerIsSet (state_in self.old)
-            (probed (sent_in elicits answer.now) (based (sent_at time answer.now)
-            self.old.variables)) }
-        ensures { CompletesCall [] (probed (sent_in elicits answer.now)
-            (based (sent_at time answer.now) self.old.variables)) self.old self.new }
+        ensures state { state_in self.new ≡ state_in self.old }
+        ensures variables { self.new.variables ≡ probed (sent_in elicits answer.now)
+            (based (sent_at time answer.now) self.old.variables) }
     {
         self.is_timer_current = false;
         self.variables.restart(sent_at(time, answer));
         self.variables.count_probe(sent_in(elicits, answer));
-        self.time_on(was_timed);
     }
 
     /// Returns whether window and pacer are checked for a datagram with packets of a space; `None` if that is

@@ -10,7 +10,7 @@ ghost use Rattle.quic_recovery.specs.State.{ReadOnlyTransition};
 ghost use Rattle.recovery_sender.specs.Bounds.{latest_start};
 ghost use Rattle.recovery_sender.specs.Senders.{state_in};
 ghost use Rattle.recovery_sender.specs.Spaces.{space_in};
-ghost use Rattle.recovery_sender.specs.Timer.{TimerIsSet, due_of, has_eliciting, loss_due, probe_due, probe_in, deadlock_due, deadlock_space, may_deadlock, pto_of, rtt_in, tracks_eliciting};
+ghost use Rattle.recovery_sender.specs.Timer.{IsOnlyPto, TimerIsSet, competes, due_of, has_eliciting, loss_due, probe_due, probe_in, deadlock_due, deadlock_space, may_deadlock, only_pto, pto_of, rtt_in, tracks_eliciting};
 ghost use Rattle.recovery_sender.specs.Steps.{told, loss_time, timer_event, TakesSteps, CompletesCall};
 
 use super::Sender;
@@ -54,13 +54,52 @@ where
     pub(super) fn set_loss_detection_timer(&mut self)
         ensures { CompletesCall [] self.old.variables self.old self.new }
     {
-        let due = self.due();
+        let known = self.only_pto();
+        let due = self.due_by(&known);
+        self.set_timer_to(due, known);
+    }
+
+    /// Sets the timer. If the only probe timeout that may be due is known, none is computed, and no other space is
+    /// examined.
+    #[inline(always)]
+    pub(super) fn move_timer(&mut self, known: Option<Duration>)
+        requires { IsOnlyPto (state_in self.old) self.old.variables known }
+        ensures { CompletesCall [] self.old.variables self.old self.new }
+    {
+        if known.is_none() {
+            self.set_loss_detection_timer();
+            return;
+        }
+        let moved = self.due_by(&known);
+        self.set_timer_to(moved, known);
+    }
+
+    /// Sets the timer to the time of what is due, or stops it if nothing is, by an event only if it changes.
+    #[inline(always)]
+    fn set_timer_to(&mut self, due: Option<(Instant, Due)>, known: Option<Duration>)
+        requires due { due ≡ due_of (state_in self.old) self.old.variables }
+        requires known { IsOnlyPto (state_in self.old) self.old.variables known }
+        ensures { CompletesCall [] self.old.variables self.old self.new }
+    {
         if self.is_set_to(&due) {
-            self.is_timer_current = true;
+            self.keep_timer(known);
             return;
         }
         self.tell_timer(due);
+        self.known_pto = known;
         self.is_timer_current = true;
+    }
+
+    /// Returns the probe timeout of 1-RTT packets, if it is known and nothing else may be due.
+    #[inline(always)]
+    pub(super) fn known_pto(&self) -> Option<Duration>
+        ensures { IsOnlyPto (state_in self.now) self.now.variables result }
+    {
+        if self.is_timer_current {
+            self.known_pto
+        } else {
+            None
+        }
     }
 
     /// Returns whether the timer is known to be set correctly.
@@ -84,15 +123,27 @@ where
 
     /// Sets the timer, unless it was known to be set and its inputs are unchanged (`was_timed`).
     #[inline(always)]
-    pub(super) fn time_on(&mut self, was_timed: bool)
-        requires { was_timed ≡ true → TimerIsSet (state_in self.old) self.old.variables }
+    pub(super) fn time_on(&mut self, was_timed: bool, known: Option<Duration>)
+        requires timed { was_timed ≡ true → TimerIsSet (state_in self.old) self.old.variables }
+        requires known { was_timed ≡ true → IsOnlyPto (state_in self.old) self.old.variables known }
         ensures { CompletesCall [] self.old.variables self.old self.new }
     {
         if was_timed {
-            self.is_timer_current = true;
+            self.keep_timer(known);
             return;
         }
         self.set_loss_detection_timer();
+    }
+
+    /// Records that the timer is set correctly.
+    #[inline(always)]
+    fn keep_timer(&mut self, known: Option<Duration>)
+        requires timed { TimerIsSet (state_in self.old) self.old.variables }
+        requires known { IsOnlyPto (state_in self.old) self.old.variables known }
+        ensures { CompletesCall [] self.old.variables self.old self.new }
+    {
+        self.known_pto = known;
+        self.is_timer_current = true;
     }
 
     /// Returns whether the timer is set to the time of what is due, or stopped if nothing is.
@@ -123,7 +174,16 @@ where
     pub(super) fn due(&self) -> Option<(Instant, Due)>
         ensures { result ≡ due_of (state_in self.now) self.now.variables }
     {
-        match self.due_alone() {
+        self.due_by(&self.only_pto())
+    }
+
+    /// Returns what is due next, and when, by the only probe timeout that may be due, if there is one.
+    #[inline(always)]
+    fn due_by(&self, known: &Option<Duration>) -> Option<(Instant, Due)>
+        requires { known.now ≡ only_pto (state_in self.now) self.now.variables }
+        ensures { result ≡ due_of (state_in self.now) self.now.variables }
+    {
+        match self.due_alone(known) {
             Some(due) => Some(due),
             None => self.due_of_all(),
         }
@@ -132,9 +192,7 @@ where
     /// Returns whether losses or probes may be due in a space.
     #[inline(always)]
     fn competes(&self, space: SpaceId) -> bool
-        ensures losses { result ≡ false → loss_due (state_in self.now) space ≡ None }
-        ensures probes { result ≡ false
-            → probe_due (state_in self.now) self.now.variables space ≡ None }
+        ensures { result ≡ competes (state_in self.now) self.now.variables space }
     {
         match self.space(space) {
             Some(here) => here.loss_time.is_some() || has_eliciting(here),
@@ -142,19 +200,40 @@ where
         }
     }
 
-    /// Returns what is due next if that is a probe of 1-RTT packets and nothing else may be due. So it is after the
+    /// Returns the probe timeout of 1-RTT packets if nothing but a probe of them may be due. So it is after the
     /// handshake while no packet is suspected lost, and it takes a few instructions.
     #[inline(always)]
-    fn due_alone(&self) -> Option<(Instant, Due)>
-        ensures { IfSome result (λ due. due_of (state_in self.now) self.now.variables ≡ Some due) }
+    fn only_pto(&self) -> Option<Duration>
+        ensures { result ≡ only_pto (state_in self.now) self.now.variables }
     {
         if self.competes(SpaceId::Initial) || self.competes(SpaceId::Handshake) {
             return None;
         }
-        if self.loss_due(SpaceId::Data).is_some() || self.path().anti_amplification_blocked(1) {
+        let here = self.space(SpaceId::Data)?;
+        if here.loss_time.is_some()
+            || self.path().anti_amplification_blocked(1)
+            || !self.variables.is_handshake_confirmed
+        {
             return None;
         }
-        self.probe_due(SpaceId::Data)
+        Some(self.pto(SpaceId::Data))
+    }
+
+    /// Returns what is due next if that is a probe of 1-RTT packets, after this timeout, and nothing else may be due.
+    #[inline(always)]
+    fn due_alone(&self, known: &Option<Duration>) -> Option<(Instant, Due)>
+        requires { known.now ≡ only_pto (state_in self.now) self.now.variables }
+        ensures { IfSome result (λ due. due_of (state_in self.now) self.now.variables ≡ Some due) }
+    {
+        let Some(pto) = known else {
+            return None;
+        };
+        let here = self.space(SpaceId::Data)?;
+        if !has_eliciting(here) {
+            return None;
+        }
+        let sent = here.time_of_last_ack_eliciting_packet?;
+        Some((sent + *pto, Due::Probes(SpaceId::Data)))
     }
 
     /// Returns what is due next in all spaces, and when.

@@ -1,4 +1,4 @@
-use Rattle.std.proofs.Common.{false, refl}
+use Rattle.std.proofs.Common.{false, None, refl}
 use Rattle.recovery_sender.proofs.BoundLaws.{made_in_bounds}
 use Rattle.recovery_sender.proofs.SampleLaws.{made_explained}
 use Rattle.recovery_sender.proofs.StepLaws.{does_as}
@@ -11,12 +11,14 @@ returns-clause-begins g c = record {
     recovery = c.in_ok-recovery.recovery;
     variables = c.new-2.result;
     is_timer_current = false;
+    known_pto = None;
     bounded = made_in_bounds c.in_ok-recovery.recovery.recovery _ _ _
         g.met.F.Controller.Controller.laws g.met.F.ControllerFactory.starts_by_now
         c.nanosecond_before.ensures.early c.in_ok-recovery.ensures.came;
     explained = made_explained c.in_ok-recovery.recovery.recovery _ _ _ c.in_ok-recovery.ensures.came
         c.in_ok-recovery.ensures.marks;
     timed = λ is. absurd cc;
+    known = λ is. absurd cc;
   };
   came = rw (c.config_of.ensures, c.nanosecond_before.ensures.value) at c.in_ok-recovery.ensures.came;
   marks = c.in_ok-recovery.ensures.marks;

@@ -1,20 +1,7 @@
-use Rattle.std.proofs.Common.{inl, refl}
-use Rattle.recovery_sender.specs.Senders.{state_in}
-use Rattle.recovery_sender.proofs.BoundLaws.{stays_threefold}
-use Rattle.recovery_sender.proofs.RunningLaws.{keeps_time}
-use Rattle.recovery_sender.proofs.LivenessLaws.{never_stalls}
 use Rattle.recovery_sender.proofs.sender.Sender.time_on.Goals as goal
 
-pub returns-then-was_timed : goal.returns-then-was_timed
-returns-then-was_timed g c =
-    let timer = c.requires c.if-was_timed.true in
-    record {
-      between = state_in c.args.self.now;
-      leads = refl;
-      sets = inl (timer, refl);
-      variables = refl;
-      timer = timer;
-      limited = stays_threefold c.args.self.now;
-      alive = never_stalls c.args.self.now _ timer;
-      running = keeps_time c.args.self.now timer (never_stalls c.args.self.now _ timer);
-    }
+pub keep_timer-requires : goal.keep_timer-requires
+keep_timer-requires g c = record {
+  timed = c.requires.timed c.if-was_timed.true;
+  known = c.requires.known c.if-was_timed.true;
+}

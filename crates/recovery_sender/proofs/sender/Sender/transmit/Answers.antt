@@ -1,4 +1,4 @@
-use Rattle.std.proofs.Common.{sym, ◌∙◌}
+use Rattle.std.proofs.Common.{◌≡◌, true, sym, ◌∙◌}
 use Rattle.recovery_sender.specs.Senders.{state_in}
 use Rattle.recovery_sender.proofs.CallLaws.{known_from, transmit_answered, window_kept}
 use Rattle.recovery_sender.proofs.TimerKeptLaws.{transmits_left}
@@ -24,8 +24,14 @@ returns-clause-steps g c =
     (does_behind _ _ _ _ c.transmit_where_it_may-sent.ensures.steps c.time_on.ensures)
 
 pub time_on-requires : goal.time_on-requires
-time_on-requires g c = λ was. let known = c.is_timed_unlimited-was_timed.ensures in
-    transmits_left _ _ _ _ _ _ c.transmit_where_it_may-sent.ensures.steps (known.unlimited was) (known.timed was)
+time_on-requires g c =
+    let known = c.is_timed_unlimited-was_timed.ensures in
+    let left = λ (was : c.is_timed_unlimited-was_timed.result ≡ true). transmits_left c.args.self.now _ _ _ _ _
+    c.transmit_where_it_may-sent.ensures.steps (known.unlimited was) in
+    record {
+      timed = λ was. (left was).0 (known.timed was);
+      known = λ was. (left was).1 _ c.known_pto-known.ensures;
+    }
 
 pub returns-clause-fits : goal.returns-clause-fits
 returns-clause-fits g c =
