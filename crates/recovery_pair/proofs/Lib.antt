@@ -1,6 +1,7 @@
 pub mod AlongLaws
 pub mod BoundLaws
 pub mod DeadlockLaws
+pub mod ExpireLaws
 pub mod FallLaws
 pub mod FlightLaws
 pub mod FrameLaws

@@ -1,6 +1,7 @@
 pub mod AddressKnown
 pub mod Carried
 pub mod Congested
+pub mod Expires
 pub mod Falls
 pub mod Flights
 pub mod Frames

@@ -3,6 +3,7 @@ ghost use Rattle.std.specs.Prelude.{◌≡◌, ◌⊎◌, ◌+◌, ◌<◌, ◌�
 ghost use Rattle.std.specs.Vec.{vec_len, vec_capacity};
 ghost use Rattle.recovery_pair.specs.AddressKnown.{known_by_fate, known_by_step};
 ghost use Rattle.recovery_pair.specs.Carried.{CarriesNone, Exchanges, IsNoProbe, MovesBack, MovesItems, MovesSent, TakesItems, hands_by, lost_by_fate, lost_by_local, none_lost};
+ghost use Rattle.recovery_pair.specs.Expires.{ExpiresInTime};
 ghost use Rattle.recovery_pair.specs.LeastWindows.{IsLeastIf, KeepsLeastWindow, persists_by_fate, persists_by_timer};
 ghost use Rattle.recovery_pair.specs.Pasts.{Continues, GoesOn, GoesOnQuietly};
 ghost use Rattle.recovery_pair.specs.Turns.{FindsByTimer, HearTurn, PackTurn, SendTurn, local_turn};
@@ -382,6 +383,7 @@ where
             (self.new.sender, self.new.waiting.items) }
         ensures least { IsLeastIf (persists_by_timer result) self.new.sender }
         ensures finds { FindsByTimer step result self.old.sender self.new.sender }
+        ensures acts { ExpiresInTime step result self.old.sender self.new.sender }
     {
         match step {
             LocalStep::Hand { space, items } => self.hand(space, items),
