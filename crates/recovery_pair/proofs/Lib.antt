@@ -3,6 +3,7 @@ pub mod BoundLaws
 pub mod DeadlockLaws
 pub mod ExpireLaws
 pub mod FallLaws
+pub mod FilledLaws
 pub mod FlightLaws
 pub mod FrameLaws
 pub mod GoingLaws

@@ -3,6 +3,7 @@ pub mod Carried
 pub mod Congested
 pub mod Expires
 pub mod Falls
+pub mod Filled
 pub mod Flights
 pub mod Frames
 pub mod LeastWindows

@@ -4,12 +4,13 @@ ghost use Rattle.recovery_pair.specs.AddressKnown.{Known, known_by_ack, with_con
 ghost use Rattle.recovery_pair.specs.Carried.{Carries, CarriesNone, losing, lost_by_ack, lost_by_timeout, sending_with, taking};
 ghost use Rattle.recovery_pair.specs.Expires.{ActsInTime, expired};
 ghost use Rattle.recovery_pair.specs.Falls.{FindsWithCause};
+ghost use Rattle.recovery_pair.specs.Filled.{KeepsSpaces, RepeatsNone};
 ghost use Rattle.recovery_pair.specs.Flights.{counted_if};
 ghost use Rattle.recovery_pair.specs.Frames.{IsFrameFor};
 ghost use Rattle.recovery_losses.specs.Frames.{largest_of};
 ghost use Rattle.recovery_pair.specs.LeastWindows.{IsLeastIf, KeepsLeastWindow, persists_by_ack, persists_by_timeout};
 ghost use Rattle.recovery_pair.specs.Newly.{AcksFlightBy};
-ghost use Rattle.recovery_pair.specs.Pasts.{Continues, GoesOn, GoesOnQuietly, HearsNumber, NoAccusation, SampledBy, SendsNumber, AcksWithin, arm_told, arriving, discarding, ending, endings_by_ack, heard_of, no_endings, validating, with_congestion};
+ghost use Rattle.recovery_pair.specs.Pasts.{Continues, GoesOn, GoesOnQuietly, HasPast, HearsNumber, NoAccusation, SampledBy, SendsNumber, AcksWithin, arm_told, arriving, discarding, ending, endings_by_ack, heard_of, no_endings, validating, with_congestion};
 ghost use Rattle.recovery_pair.specs.Promises.Framed.{HasFrame};
 ghost use Rattle.recovery_pair.specs.Permits.{FitsChecked, said_by, window_checked};
 ghost use Rattle.recovery_pair.specs.Promises.Repeats.{is_probe};
@@ -120,6 +121,7 @@ where
     ensures goes { TransmitTurn sender.old sender.new size result }
     ensures said { result ≡ said_by sender.old space now size eliciting }
     ensures fits { FitsIfPermitted sender.old space size eliciting result }
+    ensures spaces { KeepsSpaces sender.old sender.new }
     ensures timer { KeepsTimer sender.old sender.new }
     ensures items { CarriesNone sender.old sender.new }
 {
@@ -147,6 +149,8 @@ where
     ensures items { MatchResult result
         (λ queue. Carries (taking probe space queue) sender.old sender.new)
         (λ refused. CarriesNone sender.old sender.new) }
+    ensures filled { IfOk result (λ queue. probe ≡ true → queue ≡ []
+        → HasPast sender.old → RepeatsNone space sender.old) }
 {
     if probe {
         return sender.probe(space, false, ());

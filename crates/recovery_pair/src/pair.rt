@@ -5,6 +5,7 @@ ghost use Rattle.recovery_packet_numbers.specs.Skips.{IsSkips};
 ghost use Rattle.recovery_pair.specs.AddressKnown.{known_at, known_by_fate, known_by_step};
 ghost use Rattle.recovery_pair.specs.Carried.{IsNoProbe, MovesItems, MovesSent, hands_by, lost_by_fate, lost_by_local};
 ghost use Rattle.recovery_pair.specs.Expires.{ExpiresAtEnd, ExpiresInTime};
+ghost use Rattle.recovery_pair.specs.Filled.{AtEnd, FillsAnswer, FillsOutcome, FillsProbes};
 ghost use Rattle.recovery_pair.specs.LeastWindows.{AreLeastAfter, IsLeastIf, persists_by_fate, persists_by_timer};
 ghost use Rattle.recovery_pair.specs.NoDeadlock.{HoldsWithCause, IfTied, NeverStuck};
 ghost use Rattle.recovery_pair.specs.Pasts.{Continues, GoesOn};
@@ -77,6 +78,9 @@ where
         (server.old.sender, server.old.waiting.items)
         (client.new.sender, client.new.waiting.items)
         (server.new.sender, server.new.waiting.items) }
+    ensures filled { AtEnd end (FillsOutcome space result)
+        (client.old.sender, client.old.waiting.items)
+        (server.old.sender, server.old.waiting.items) }
 {
     match end {
         End::Client => client.send(alloc, end, space, now, size),
@@ -215,6 +219,11 @@ where
         ensures expires { ExpiresAtEnd step result self.old.client.sender self.old.server.sender
             self.new.client.sender self.new.server.sender }
 
+        // A probe has items if there are any to send (RFC 9002, 6.2.4).
+        ensures filled { FillsProbes step result
+            (self.old.client.sender, self.old.client.waiting.items)
+            (self.old.server.sender, self.old.server.waiting.items) }
+
         // Persistent congestion leaves the smallest window (RFC 9002, 7.6.2).
         ensures least { AreLeastAfter (step, result) self.new.client.sender self.new.server.sender }
     {
@@ -245,6 +254,9 @@ where
             self.new.server.waiting.items }
         ensures permits { HoldsAt end (PermitsAnswer space now size result)
             self.old.client.sender self.old.server.sender }
+        ensures filled { AtEnd end (FillsAnswer space result)
+            (self.old.client.sender, self.old.client.waiting.items)
+            (self.old.server.sender, self.old.server.waiting.items) }
         ensures timer_set { KeepsTimers (PairStep.Send end space now size, result)
             self.old.client.sender self.old.server.sender self.new.client.sender
             self.new.server.sender }

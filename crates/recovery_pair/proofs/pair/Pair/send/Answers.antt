@@ -5,6 +5,7 @@ use Rattle.recovery_pair.specs.declared.steps.PairAnswer.TheVariants.{Failed, He
 use Rattle.recovery_pair.specs.declared.steps.PairStep.TheVariants.{Send}
 use Rattle.recovery_pair.specs.declared.endpoint.Outgoing.TheVariants as outgoing
 use Rattle.recovery_pair.specs.Logs.{ack_of}
+use Rattle.recovery_pair.proofs.FilledLaws.{fills_nothing}
 use Rattle.recovery_pair.proofs.DeadlockLaws.{held_at}
 use Rattle.recovery_pair.proofs.ItemTies.{failed_items, idle_items, nothing_items, same_items, sent_items}
 use Rattle.recovery_pair.proofs.PermitLaws.{permits_at, permits_none}
@@ -143,3 +144,21 @@ returns-in-Ok-Held-clause-held g c = held_at _ _ _ _ _ c.args.end c.args.space c
     (λ Idle in_flight checked said agrees. agrees)
     (rw c.in-Ok-Held.field-0-is at c.in-Ok-Held.ensures.permits))
     (timers_still c.args.end _ _ _ _ c.in-Ok-Held.ensures.timer)
+
+pub returns-in-Ok-Sent-clause-filled : goal.returns-in-Ok-Sent-clause-filled
+returns-in-Ok-Sent-clause-filled g c = rw c.in-Ok-Sent.field-0-is at c.in-Ok-Sent.ensures.filled
+
+pub returns-in-Ok-Nothing-clause-filled : goal.returns-in-Ok-Nothing-clause-filled
+returns-in-Ok-Nothing-clause-filled g c = fills_nothing c.args.end _ _
+
+pub returns-in-Ok-Held-clause-filled : goal.returns-in-Ok-Held-clause-filled
+returns-in-Ok-Held-clause-filled g c = fills_nothing c.args.end _ _
+
+pub returns-in-Ok-Failed-clause-filled : goal.returns-in-Ok-Failed-clause-filled
+returns-in-Ok-Failed-clause-filled g c = fills_nothing c.args.end _ _
+
+pub returns-in-Err-send_from-clause-filled : goal.returns-in-Err-send_from-clause-filled
+returns-in-Err-send_from-clause-filled g c = fills_nothing c.args.end _ _
+
+pub returns-in-Err-clause-filled : goal.returns-in-Err-clause-filled
+returns-in-Err-clause-filled g c = fills_nothing c.args.end _ _
