@@ -21,6 +21,7 @@ pub mod NewlyLaws
 pub mod PacketLaws
 pub mod PairRows
 pub mod PermitLaws
+pub mod ProbeTies
 pub mod QueueLaws
 pub mod QuietLaws
 pub mod RepeatLaws

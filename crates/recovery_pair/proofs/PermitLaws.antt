@@ -21,19 +21,20 @@ pub packed_agrees : {F Q R C K S M P : Type 0} {f : _} {c : _} {q : _} {m : _} {
     (checked : Option ℕ) (Idle : Type 0) (ranges : List (ℕ × ℕ)) (delay : ℕ) (said : Result Transmission SenderError)
     (old new : List
     Waiting)
-    (outcome : Outgoing) → said ≡ Ok Transmitted
+    (outcome : Outgoing) → (eliciting ≡ false → Idle) → said ≡ Ok Transmitted
     → PackTurn before after from space now size eliciting checked ranges delay outcome → PackWaits old new space outcome
     → AgreesAlready Idle eliciting checked said (Ok outcome)
 packed_agrees before after from space now size eliciting checked Idle ranges delay said old new
-    (Sent packet items window) is turn waits =
-    (is, turn.elicits, turn.window_is)
-packed_agrees before after from space now size eliciting checked Idle ranges delay said old new (Failed refusal) is turn
+    (Sent packet items window) idle is turn waits =
+    (is, turn.elicits, turn.window_is, idle)
+packed_agrees before after from space now size eliciting checked Idle ranges delay said old new (Failed refusal) idle is turn
     waits =
     is
-packed_agrees before after from space now size eliciting checked Idle ranges delay said old new (Held held) is turn
+packed_agrees before after from space now size eliciting checked Idle ranges delay said old new (Held held) idle is turn
     waits =
     absurd waits
-packed_agrees before after from space now size eliciting checked Idle ranges delay said old new Nothing is turn waits =
+packed_agrees before after from space now size eliciting checked Idle ranges delay said old new Nothing idle is turn
+    waits =
     absurd waits
 
 pub permits_at : {F Q R C K S M P : Type 0} {f : _} {c : _} {q : _} {m : _} {r : _} (end : End) (space : SpaceId)

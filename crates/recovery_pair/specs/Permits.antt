@@ -25,7 +25,7 @@ module _ (Idle : Type 0) (in_flight : Bool) (checked : Option ℕ) (said : Resul
   -- send only if the sender is idle.
   abbrev pub AgreesWith : Result PairAnswer SenderError → Type 0
   AgreesWith (Ok (Sent number items eliciting window delay)) =
-      (said ≡ Ok Transmitted) × (eliciting ≡ in_flight) × (window ≡ checked)
+      (said ≡ Ok Transmitted) × (eliciting ≡ in_flight) × (window ≡ checked) × (in_flight ≡ false → Idle)
   AgreesWith (Ok (Failed refusal)) = said ≡ Ok Transmitted
   AgreesWith (Ok (Held held)) = (said ≡ Ok held) × (held ≡ Transmitted → ⊥)
   AgreesWith (Ok Nothing) = Idle
@@ -34,7 +34,7 @@ module _ (Idle : Type 0) (in_flight : Bool) (checked : Option ℕ) (said : Resul
   -- the answer that an outcome gives, as far as it matters here
   abbrev pub AgreesAlready : Result Outgoing SenderError → Type 0
   AgreesAlready (Ok (outgoing.Sent packet items window)) =
-      (said ≡ Ok Transmitted) × (packet.eliciting ≡ in_flight) × (window ≡ checked)
+      (said ≡ Ok Transmitted) × (packet.eliciting ≡ in_flight) × (window ≡ checked) × (in_flight ≡ false → Idle)
   AgreesAlready (Ok (outgoing.Failed refusal)) = said ≡ Ok Transmitted
   AgreesAlready (Ok (outgoing.Held held)) = (said ≡ Ok held) × (held ≡ Transmitted → ⊥)
   AgreesAlready (Ok outgoing.Nothing) = Idle

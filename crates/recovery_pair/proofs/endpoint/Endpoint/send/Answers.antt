@@ -26,7 +26,8 @@ returns-clause-permits g c =
           (packed_agrees c.transmit.new.sender c.pack.new.self.sender c.args.from c.args.space c.args.now
           c.args.size
           c.has_items-eliciting.result c.window_checked-window.result _ c.in-Ok.ack.ranges.items c.in-Ok.ack.delay _
-          c.reserve.new.self.items c.pack.new.self.waiting.items c.pack.result (sym transmits.said) c.pack.ensures.goes
+          c.reserve.new.self.items c.pack.new.self.waiting.items c.pack.result
+          c.has_items-eliciting.ensures.idle (sym transmits.said) c.pack.ensures.goes
           c.pack.ensures.waits),
     )
 

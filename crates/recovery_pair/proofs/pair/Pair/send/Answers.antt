@@ -20,7 +20,8 @@ returns-in-Ok-Sent-clause-keeps g c = rw c.sent_ack-ack.ensures (step_keeps _ _ 
     _ _ _ _ _ _
     (rw c.in-Ok.ensures.items at c.push_reserved.ensures.items)
     (rw c.in-Ok-Sent.field-0-is at c.in-Ok-Sent.ensures.goes))
-    tt (sent_queue c.args.end c.args.space c.args.now c.args.size c.in-Ok-Sent.packet.number c.in-Ok-Sent.items
+    tt (rw c.in-Ok-Sent.field-0-is at c.in-Ok-Sent.ensures.filled)
+    (sent_queue c.args.end c.args.space c.args.now c.args.size c.in-Ok-Sent.packet.number c.in-Ok-Sent.items
     c.in-Ok-Sent.packet.eliciting c.in-Ok-Sent.window (ack_of c.in-Ok-Sent.packet) _ _ _ _
     (rw c.in-Ok-Sent.field-0-is at c.in-Ok-Sent.ensures.waits))
     (sent_items c.args.end c.args.space c.args.now c.args.size c.in-Ok-Sent.packet.number c.in-Ok-Sent.items
@@ -31,7 +32,7 @@ pub returns-in-Ok-Nothing-clause-keeps : goal.returns-in-Ok-Nothing-clause-keeps
 returns-in-Ok-Nothing-clause-keeps g c = step_keeps _ _ _ _ _ _ _ _ _ _ _ _
     (held_turn c.args.end _ _ _ _ _ _ _ _
     c.in-Ok.ensures.items tt tt (λ log listed. tt) (rw c.in-Ok-Nothing.field-0-is at c.in-Ok-Nothing.ensures.goes))
-    tt (nothing_queue c.args.end c.args.space c.args.now c.args.size _ _ _ _
+    tt (fills_nothing c.args.end _ _) (nothing_queue c.args.end c.args.space c.args.now c.args.size _ _ _ _
     (rw c.in-Ok-Nothing.field-0-is at c.in-Ok-Nothing.ensures.waits))
     (nothing_items c.args.end c.args.space c.args.now c.args.size _ _ _ _
     (rw c.in-Ok-Nothing.field-0-is at c.in-Ok-Nothing.ensures.permits)
@@ -42,7 +43,7 @@ pub returns-in-Ok-Held-clause-keeps : goal.returns-in-Ok-Held-clause-keeps
 returns-in-Ok-Held-clause-keeps g c = step_keeps _ _ _ _ _ _ _ _ _ _ _ _
     (held_turn c.args.end _ _ _ _ _ _ _ _
     c.in-Ok.ensures.items tt tt (λ log listed. tt) (rw c.in-Ok-Held.field-0-is at c.in-Ok-Held.ensures.goes))
-    tt (still_queue c.args.end (Send c.args.end c.args.space c.args.now c.args.size) (Ok (Held c.in-Ok-Held.held)) (λ
+    tt (fills_nothing c.args.end _ _) (still_queue c.args.end (Send c.args.end c.args.space c.args.now c.args.size) (Ok (Held c.in-Ok-Held.held)) (λ
     log end. record {
       handed_same = λ measure there. refl;
       sent_same = λ measure
@@ -56,7 +57,7 @@ pub returns-in-Ok-Failed-clause-keeps : goal.returns-in-Ok-Failed-clause-keeps
 returns-in-Ok-Failed-clause-keeps g c = step_keeps _ _ _ _ _ _ _ _ _ _ _ _
     (held_turn c.args.end _ _ _ _ _ _ _ _
     c.in-Ok.ensures.items tt tt (λ log listed. tt) (rw c.in-Ok-Failed.field-0-is at c.in-Ok-Failed.ensures.goes))
-    tt (still_queue c.args.end (Send c.args.end c.args.space c.args.now c.args.size) (Ok (Failed
+    tt (fills_nothing c.args.end _ _) (still_queue c.args.end (Send c.args.end c.args.space c.args.now c.args.size) (Ok (Failed
     c.in-Ok-Failed.refused)) (λ log end. record {
       handed_same = λ measure there. refl;
       sent_same = λ measure
@@ -70,7 +71,7 @@ pub returns-in-Err-send_from-clause-keeps : goal.returns-in-Err-send_from-clause
 returns-in-Err-send_from-clause-keeps g c = step_keeps _ _ _ _ _ _ _ _ _ _ _ _
     (held_turn c.args.end _ _ _ _ _ _ _ _
     c.in-Ok.ensures.items tt tt (λ log listed. tt) c.in-Err-send_from.ensures.goes)
-    tt (still_queue c.args.end (Send c.args.end c.args.space c.args.now c.args.size) (Err c.in-Err-send_from.refused) (λ
+    tt (fills_nothing c.args.end _ _) (still_queue c.args.end (Send c.args.end c.args.space c.args.now c.args.size) (Err c.in-Err-send_from.refused) (λ
     log end. record {
       handed_same = λ measure there. refl;
       sent_same = λ measure
@@ -84,7 +85,7 @@ pub returns-in-Err-clause-keeps : goal.returns-in-Err-clause-keeps
 returns-in-Err-clause-keeps g c = step_keeps _ _ _ _ _ _ _ _ _ _ _ _
     (idle_step _ _ _ _ _ _ c.in-Err.ensures.items tt tt
     (λ log listed. tt))
-    tt (same_queue (Send c.args.end c.args.space c.args.now c.args.size) (Err (Event NoMemory)) (λ log end. record {
+    tt (fills_nothing c.args.end _ _) (same_queue (Send c.args.end c.args.space c.args.now c.args.size) (Err (Event NoMemory)) (λ log end. record {
       handed_same = λ measure there. refl;
       sent_same = λ measure there. refl;
     }) (λ log. tt) _ _)
