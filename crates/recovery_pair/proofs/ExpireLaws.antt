@@ -30,7 +30,7 @@ use Rattle.recovery_sender.specs.Spaces.{space_in}
 use Rattle.recovery_sender.specs.Timeouts.{IsEarly, TimeoutResult}
 use Rattle.recovery_sender.specs.Timer.{behind, deadlock_space, due_of, has_eliciting, loss_due, may_deadlock, probe_due, probe_in, pto_of, soonest, waits}
 use Rattle.recovery_pair.specs.AddressKnown.{Known}
-use Rattle.recovery_pair.specs.Expires.{ActsInTime, IsDue, IsLossDue, expired}
+use Rattle.recovery_pair.specs.Expires.{ActsInTime, AsksIn, IsDue, IsLossDue, expired}
 use Rattle.recovery_pair.specs.Timed.{IsTimedAs}
 
 -- ---- the earliest of several
@@ -135,6 +135,20 @@ some_and : (now : ℕ) (due : Option ℕ) (time : ℕ) → due ≡ Some time →
 some_and now due time is less = rw is less
 
 module _ {F Q R C K S M P : Type 0} {f : _} {c : _} {q : _} {m : _} {r : _} (now : ℕ)
+    (old new : Sender F Q R C K S M P f c q m r) where
+  probed : (space : SpaceId) (count : ℕ) → new.variables ≡ timed_out space count now old.variables
+      → is_probe_due new.variables space ≡ true
+  probed space count is = rw is (itself space)
+    where
+      itself : (there : SpaceId) → same_space there there ≡ true
+      itself there = grind arith
+
+  pub timeout_asks : (result : Result Timeout SenderError) → TimeoutResult now old new result
+      → AsksIn (expired result) new
+  timeout_asks (Ok (Probe space count)) is = probed space count is.1.variables
+  timeout_asks result is = tt
+
+module _ {F Q R C K S M P : Type 0} {f : _} {c : _} {q : _} {m : _} {r : _} (now : ℕ)
     (old new : Sender F Q R C K S M P f c q m r) (known : Known) (timed : IsTimedAs known old) where
   -- the timer is due, and why
   due_since : (kind : Due) → due_now now (state_in old) old.variables ≡ Some kind
@@ -155,22 +169,15 @@ module _ {F Q R C K S M P : Type 0} {f : _} {c : _} {q : _} {m : _} {r : _} (now
   loss_since space is =
       let since = due_since (Losses space) is in (since.0, some_and now _ since.1.0 since.1.1 since.1.2)
 
-  probed : (space : SpaceId) (count : ℕ) → new.variables ≡ timed_out space count now old.variables
-      → is_probe_due new.variables space ≡ true
-  probed space count is = rw is (itself space)
-    where
-      itself : (there : SpaceId) → same_space there there ≡ true
-      itself there = grind arith
-
   pub timeout_acts : (result : Result Timeout SenderError) → TimeoutResult now old new result
       → ActsInTime now (expired result) old new
   timeout_acts (Ok Nothing) is = subst (IsEarly now) (sym timed.2) (early_of now _ is.0)
   timeout_acts (Ok (Lost space losses)) is = loss_since space is.0
   timeout_acts (Ok (Probe space count)) (inl probes, does) =
       let since = due_since (Probes space) probes.0 in
-      (since.0, probed space count does.variables, inl (probes.1, since.1.1))
+      (since.0, probed now old new space count does.variables, inl (probes.1, since.1.1))
   timeout_acts (Ok (Probe space count)) (inr ends, does) =
       let since = due_since (AntiDeadlock space) ends.0 in
-      (since.0, probed space count does.variables, inr (ends.1, since.1.1))
+      (since.0, probed now old new space count does.variables, inr (ends.1, since.1.1))
   timeout_acts (Err refusal) is =
       let since = loss_since is.0.0 is.0.1 in (since.0, is.1, is.0.0, since.1)

@@ -1,10 +1,12 @@
 -- A probe without items is sent only if no packet in flight has items left. So probes before it moved out what these
 -- packets were sent with.
-use Rattle.std.proofs.Common.{◌≡◌, ◌≢◌, ◌<◌, ◌≤◌, ℕ, ◌+◌, Bool, true, false, true≢false, List, [], ◌∷◌, Option, None, Some, Result, Ok, refl, sym, ap, ◌∙◌, arith}
+use Rattle.std.proofs.Common.{◌≡◌, ◌≢◌, ◌<◌, ◌≤◌, ℕ, ◌+◌, Bool, true, false, true≢false, List, [], ◌∷◌, Option, None, Some, Result, Ok, refl, sym, ap, subst, ◌∙◌, arith}
 use Rattle.std.specs.Prelude.{is_some, nat_eq}
 use Rattle.std.specs.Set.{is_member}
 use Rattle.std.proofs.lemmas.Bool.Decides.{nat_tests}
 use Rattle.recovery_base.specs.declared.below.SpaceId.{SpaceId}
+use Rattle.recovery_base.specs.Spaces.{same_space}
+use Rattle.recovery_losses.specs.Variables.{is_probe_due}
 use Rattle.recovery_spaces.specs.Packets.{Packet, Packets, packet_at, without}
 use Rattle.recovery_spaces.specs.Queued.{QueuedState}
 use Rattle.recovery_spaces.specs.Spaces.{packets_of, space_of}
@@ -13,27 +15,30 @@ use Rattle.recovery_spaces.proofs.PacketLaws.{number_at}
 use Rattle.recovery_history.specs.History.{History}
 use Rattle.recovery_history.specs.RepliesAfter.{RepliesAfter}
 use Rattle.recovery_history.proofs.Runs.{kept_after}
-use Rattle.recovery_history.proofs.TrackedLaws.{AllTracked, keeps_tracked, none_tracked, tracked_found}
+use Rattle.recovery_history.proofs.TrackedLaws.{AllTracked, keeps_tracked, none_tracked, one_space, tracked_found}
 use Rattle.recovery_sender.specs.Senders.{state_in}
 use Rattle.recovery_sender.specs.declared.sender.Sender.{Sender}
 use Rattle.recovery_sender.specs.declared.sender.SenderError.{SenderError}
+use Rattle.recovery_sender.specs.declared.sender.probes.Timeout.TheVariants.{Probe}
 use Rattle.recovery_pair.specs.declared.endpoint.Waiting.{Waiting}
 use Rattle.recovery_pair.specs.declared.steps.End.{End}
 use Rattle.recovery_pair.specs.declared.steps.End.TheVariants.{Client, Server}
+use Rattle.recovery_pair.specs.declared.steps.LocalStep.TheVariants.{Expire}
 use Rattle.recovery_pair.specs.declared.steps.PairAnswer.{PairAnswer}
-use Rattle.recovery_pair.specs.declared.steps.PairAnswer.TheVariants.{Sent}
+use Rattle.recovery_pair.specs.declared.steps.PairAnswer.TheVariants.{Expired, Sent}
 use Rattle.recovery_pair.specs.declared.steps.PairStep.{PairStep}
-use Rattle.recovery_pair.specs.declared.steps.PairStep.TheVariants.{Send}
+use Rattle.recovery_pair.specs.declared.steps.PairStep.TheVariants.{Local, Send}
 use Rattle.recovery_pair.specs.declared.steps.WirePacket.{WirePacket}
 use Rattle.recovery_pair.specs.Carried.{CarriesItems, all_sent_with, sent_with}
-use Rattle.recovery_pair.specs.Filled.{CarryNone, FillsProbes, RepeatsNone}
+use Rattle.recovery_pair.specs.Expires.{AsksAt}
+use Rattle.recovery_pair.specs.Filled.{AtEnd, CarryNone, FillsProbes, IsProbeIfDue, RepeatsNone}
 use Rattle.recovery_pair.specs.Logs.{PairLog, was_discarded}
 use Rattle.recovery_pair.specs.Pasts.{HasPast}
 use Rattle.recovery_pair.specs.Promises.Newly.{all_but, flight_of_one}
 use Rattle.recovery_pair.specs.Promises.Probes.{AreInFlight, ProbesForFlight}
 use Rattle.recovery_pair.specs.Promises.Repeats.{has_failed, probed_in}
 use Rattle.recovery_pair.specs.Promises.Resends.{AddsItems, sent_under}
-use Rattle.recovery_pair.specs.Tied.{IsLogged, IsTied}
+use Rattle.recovery_pair.specs.Tied.{AsksProbes, IsLogged, IsTied}
 use Rattle.recovery_pair.proofs.AlongLaws.{beginning_of}
 use Rattle.recovery_pair.proofs.ItemTies.{under_past}
 use Rattle.recovery_pair.proofs.NewlyLaws.{flight_tracked}
@@ -140,16 +145,48 @@ module _ {F Q R C K S M : Type 0} {f : _} {c : _} {q : _} {m : _} {r : _} where
         omega (arith, owes, waits, same, least, under, empty, most, probed)
 
   -- a step of either
+  abbrev pub SendsProbes : PairStep → Result PairAnswer SenderError → Sender F Q R C K S M (List ℕ) f c q m r
+      → Sender F Q R C K S M (List ℕ) f c q m r → Type 0
+  SendsProbes (Send end space now size) (Ok (Sent number items eliciting window ack)) =
+      AtEnd end (IsProbeIfDue space eliciting window)
+  SendsProbes step answer = λ client server. Unit {0}
+
   pub probes_kept : (client server : Sender F Q R C K S M (List ℕ) f c q m r) (wire : List WirePacket)
       (client_waits server_waits : List Waiting) (step : PairStep) (answer : Result PairAnswer SenderError)
-      → FillsProbes step answer (client, client_waits) (server, server_waits) → (validated : Bool) (log : PairLog)
-      → IsTied validated log client server wire client_waits server_waits → ProbesForFlight log (step, answer)
+      → FillsProbes step answer (client, client_waits) (server, server_waits) → SendsProbes step answer client server
+      → (validated : Bool) (log : PairLog) → IsTied validated log client server wire client_waits server_waits
+      → ProbesForFlight log (step, answer)
   probes_kept client server wire client_waits server_waits (Send Client space now size)
-      (Ok (Sent number items eliciting window ack)) fills validated log tied = λ on none keys tracks.
-      probes_before validated log Client (client, client_waits) tied.ends.own tied.ends.logged tied.own_items space
-      (fills on none tied.ends.own).0 keys tracks
+      (Ok (Sent number items eliciting window ack)) fills probes validated log tied = (
+        λ asked. probes (tied.own_asked space asked),
+        λ on none keys tracks. probes_before validated log Client (client, client_waits) tied.ends.own
+            tied.ends.logged tied.own_items space (fills on none tied.ends.own).0 keys tracks,
+      )
   probes_kept client server wire client_waits server_waits (Send Server space now size)
-      (Ok (Sent number items eliciting window ack)) fills validated log tied = λ on none keys tracks.
-      probes_before validated log Server (server, server_waits) tied.ends.peer tied.ends.peer_logged tied.peer_items
-      space (fills on none tied.ends.peer).0 keys tracks
-  probes_kept client server wire client_waits server_waits step answer fills validated log tied = tt
+      (Ok (Sent number items eliciting window ack)) fills probes validated log tied = (
+        λ asked. probes (tied.peer_asked space asked),
+        λ on none keys tracks. probes_before validated log Server (server, server_waits) tied.ends.peer
+            tied.ends.peer_logged tied.peer_items space (fills on none tied.ends.peer).0 keys tracks,
+      )
+  probes_kept client server wire client_waits server_waits step answer fills probes validated log tied = tt
+
+  -- what a step asks for
+  abbrev pub AsksAfter : PairStep → Result PairAnswer SenderError → Sender F Q R C K S M (List ℕ) f c q m r
+      → Sender F Q R C K S M (List ℕ) f c q m r → Type 0
+  AsksAfter (Local end step) answer = AtEnd end (AsksAt step answer)
+  AsksAfter step answer = λ client server. Unit {0}
+
+  asked_there : (sender : Sender F Q R C K S M (List ℕ) f c q m r) (there : SpaceId)
+      → is_probe_due sender.variables there ≡ true → (space : SpaceId) → same_space there space ≡ true
+      → is_probe_due sender.variables space ≡ true
+  asked_there sender there due space is =
+      subst (λ (at : SpaceId). is_probe_due sender.variables at ≡ true) (one_space there space is) due
+
+  pub asked_kept : (client server : Sender F Q R C K S M (List ℕ) f c q m r) (step : PairStep)
+      (answer : Result PairAnswer SenderError) (log : PairLog) → AsksAfter step answer client server
+      → AsksProbes ((step, answer) ∷ log) Client client × AsksProbes ((step, answer) ∷ log) Server server
+  asked_kept client server (Local Client (Expire now)) (Ok (Expired (Probe there count))) log asks =
+      (asked_there client there asks, λ space is. absurd (true≢false (sym is)))
+  asked_kept client server (Local Server (Expire now)) (Ok (Expired (Probe there count))) log asks =
+      (λ space is. absurd (true≢false (sym is)), asked_there server there asks)
+  asked_kept client server step answer log asks = (λ space never. absurd never, λ space never. absurd never)

@@ -52,6 +52,15 @@ module _ {F Q R C K S M P : Type 0} {f : _} {c : _} {q : _} {m : _} {r : _} wher
   ActsInTime now (Err refusal) old new =
       IsDue now old × (refusal ≡ Event NoMemory) × (space : SpaceId) × IsLossDue now space old
 
+  -- probes are due if they are asked for
+  abbrev pub AsksIn : Result PairAnswer SenderError → Sender F Q R C K S M P f c q m r → Type 0
+  AsksIn (Ok (Expired (Probe space count))) new = is_probe_due new.variables space ≡ true
+  AsksIn answer new = Unit {0}
+
+  abbrev pub AsksAt : LocalStep → Result PairAnswer SenderError → Sender F Q R C K S M P f c q m r → Type 0
+  AsksAt (Expire now) answer new = AsksIn answer new
+  AsksAt step answer new = Unit {0}
+
   -- a step of an endpoint whose timer follows the events
   abbrev pub ExpiresInTime : LocalStep → Result PairAnswer SenderError → Sender F Q R C K S M P f c q m r
       → Sender F Q R C K S M P f c q m r → Type 0

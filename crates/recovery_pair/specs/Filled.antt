@@ -3,6 +3,7 @@
 use Rattle.std.specs.Prelude.{◌≡◌, ℕ, Bool, true, List, [], ◌∷◌, get_or, Option, None, Some, Result, Ok, if◌then◌else◌}
 use Rattle.recovery_base.specs.declared.below.SpaceId.{SpaceId}
 use Rattle.recovery_base.specs.Spaces.{same_space}
+use Rattle.recovery_losses.specs.Variables.{is_probe_due}
 use Rattle.recovery_spaces.specs.Packets.{Packets}
 use Rattle.recovery_spaces.specs.Spaces.{packets_of, space_of}
 use Rattle.recovery_sender.specs.Senders.{state_in}
@@ -44,6 +45,12 @@ AtEnd Server Holds client server = Holds server
 abbrev pub KeepsSpaces : {F Q R C K S M P : Type 0} {f : _} {c : _} {q : _} {m : _} {r : _}
     → Sender F Q R C K S M P f c q m r → Sender F Q R C K S M P f c q m r → Type 0
 KeepsSpaces old new = (space : SpaceId) → space_of space (state_in new).spaces ≡ space_of space (state_in old).spaces
+
+-- while a probe is due in a space, what is sent there is one
+abbrev pub IsProbeIfDue : {F Q R C K S M P : Type 0} {f : _} {c : _} {q : _} {m : _} {r : _} → SpaceId → Bool
+    → Option ℕ → Sender F Q R C K S M P f c q m r → Type 0
+IsProbeIfDue space eliciting window sender =
+    is_probe_due sender.variables space ≡ true → is_probe eliciting window ≡ true
 
 module _ {F Q R C K S M : Type 0} {f : _} {c : _} {q : _} {m : _} {r : _} where
   -- in a space: the retransmission queue and the packets in flight have no items

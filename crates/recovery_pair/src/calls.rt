@@ -2,7 +2,7 @@
 ghost use Rattle.std.specs.Prelude.{◌≡◌, ◌≢◌, [], ◌∷◌, true, IfOk, MatchResult, Some};
 ghost use Rattle.recovery_pair.specs.AddressKnown.{Known, known_by_ack, with_confirmation, with_keys};
 ghost use Rattle.recovery_pair.specs.Carried.{Carries, CarriesNone, losing, lost_by_ack, lost_by_timeout, sending_with, taking};
-ghost use Rattle.recovery_pair.specs.Expires.{ActsInTime, expired};
+ghost use Rattle.recovery_pair.specs.Expires.{ActsInTime, AsksIn, expired};
 ghost use Rattle.recovery_pair.specs.Falls.{FindsWithCause};
 ghost use Rattle.recovery_pair.specs.Filled.{KeepsSpaces, RepeatsNone};
 ghost use Rattle.recovery_pair.specs.Flights.{counted_if};
@@ -327,6 +327,7 @@ where
     ensures items { Carries (losing (lost_by_timeout result)) sender.old sender.new }
     ensures acts { (known : Known) → IsTimedAs known sender.old
         → ActsInTime now (expired result) sender.old sender.new }
+    ensures asks { AsksIn (expired result) sender.new }
     ensures least { IsLeastIf (persists_by_timeout result) sender.new }
     ensures finds { FindsWithCause (persists_by_timeout result) (lost_by_timeout result) now
         (λ congests. GoesOn (record (timeout_turn result) { congests = congests }))

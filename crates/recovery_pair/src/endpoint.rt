@@ -3,7 +3,7 @@ ghost use Rattle.std.specs.Prelude.{◌≡◌, ◌⊎◌, ◌+◌, ◌<◌, ◌�
 ghost use Rattle.std.specs.Vec.{vec_len, vec_capacity};
 ghost use Rattle.recovery_pair.specs.AddressKnown.{known_by_fate, known_by_step};
 ghost use Rattle.recovery_pair.specs.Carried.{CarriesNone, Exchanges, IsNoProbe, MovesBack, MovesItems, MovesSent, TakesItems, hands_by, lost_by_fate, lost_by_local, none_lost};
-ghost use Rattle.recovery_pair.specs.Expires.{ExpiresInTime};
+ghost use Rattle.recovery_pair.specs.Expires.{AsksAt, ExpiresInTime};
 ghost use Rattle.recovery_pair.specs.Filled.{FillsOutcome, IsFilled, IsNextAt, next_in};
 ghost use Rattle.recovery_pair.specs.LeastWindows.{IsLeastIf, KeepsLeastWindow, persists_by_fate, persists_by_timer};
 ghost use Rattle.recovery_pair.specs.Pasts.{Continues, GoesOn, GoesOnQuietly};
@@ -392,6 +392,7 @@ where
         ensures least { IsLeastIf (persists_by_timer result) self.new.sender }
         ensures finds { FindsByTimer step result self.old.sender self.new.sender }
         ensures acts { ExpiresInTime step result self.old.sender self.new.sender }
+        ensures asks { AsksAt step result self.new.sender }
     {
         match step {
             LocalStep::Hand { space, items } => self.hand(space, items),

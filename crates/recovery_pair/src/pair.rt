@@ -4,7 +4,7 @@ ghost use Rattle.recovery_base.specs.Units.{number_limit};
 ghost use Rattle.recovery_packet_numbers.specs.Skips.{IsSkips};
 ghost use Rattle.recovery_pair.specs.AddressKnown.{known_at, known_by_fate, known_by_step};
 ghost use Rattle.recovery_pair.specs.Carried.{IsNoProbe, MovesItems, MovesSent, hands_by, lost_by_fate, lost_by_local};
-ghost use Rattle.recovery_pair.specs.Expires.{ExpiresAtEnd, ExpiresInTime};
+ghost use Rattle.recovery_pair.specs.Expires.{AsksAt, ExpiresAtEnd, ExpiresInTime};
 ghost use Rattle.recovery_pair.specs.Filled.{AtEnd, FillsAnswer, FillsOutcome, FillsProbes};
 ghost use Rattle.recovery_pair.specs.LeastWindows.{AreLeastAfter, IsLeastIf, persists_by_fate, persists_by_timer};
 ghost use Rattle.recovery_pair.specs.NoDeadlock.{HoldsWithCause, IfTied, NeverStuck};
@@ -152,6 +152,7 @@ where
         client.new.sender server.new.sender }
     ensures acts { TurnsAt end (ExpiresInTime step result) client.old.sender server.old.sender
         client.new.sender server.new.sender }
+    ensures asks { AtEnd end (AsksAt step result) client.new.sender server.new.sender }
 {
     match end {
         End::Client => client.local(step),

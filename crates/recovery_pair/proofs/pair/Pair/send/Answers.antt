@@ -8,7 +8,7 @@ use Rattle.recovery_pair.specs.Logs.{ack_of}
 use Rattle.recovery_pair.proofs.FilledLaws.{fills_nothing}
 use Rattle.recovery_pair.proofs.DeadlockLaws.{held_at}
 use Rattle.recovery_pair.proofs.ItemTies.{failed_items, idle_items, nothing_items, same_items, sent_items}
-use Rattle.recovery_pair.proofs.PermitLaws.{permits_at, permits_none}
+use Rattle.recovery_pair.proofs.PermitLaws.{due_at, permits_at, permits_none}
 use Rattle.recovery_pair.proofs.QueueLaws.{nothing_queue, same_queue, sent_queue, step_keeps, still_queue}
 use Rattle.recovery_pair.proofs.StepTies.{held_turn, idle_step, send_turn}
 use Rattle.recovery_pair.proofs.TimedLaws.{timers_still}
@@ -21,7 +21,8 @@ returns-in-Ok-Sent-clause-keeps g c = rw c.sent_ack-ack.ensures (step_keeps _ _ 
     (rw c.in-Ok.ensures.items at c.push_reserved.ensures.items)
     (rw c.in-Ok-Sent.field-0-is at c.in-Ok-Sent.ensures.goes))
     tt (rw c.in-Ok-Sent.field-0-is at c.in-Ok-Sent.ensures.filled)
-    (sent_queue c.args.end c.args.space c.args.now c.args.size c.in-Ok-Sent.packet.number c.in-Ok-Sent.items
+    (due_at c.args.space c.args.now c.args.size c.in-Ok-Sent.packet c.in-Ok-Sent.items c.in-Ok-Sent.window c.args.end _ _
+    (rw c.in-Ok-Sent.field-0-is at c.in-Ok-Sent.ensures.permits)) tt (sent_queue c.args.end c.args.space c.args.now c.args.size c.in-Ok-Sent.packet.number c.in-Ok-Sent.items
     c.in-Ok-Sent.packet.eliciting c.in-Ok-Sent.window (ack_of c.in-Ok-Sent.packet) _ _ _ _
     (rw c.in-Ok-Sent.field-0-is at c.in-Ok-Sent.ensures.waits))
     (sent_items c.args.end c.args.space c.args.now c.args.size c.in-Ok-Sent.packet.number c.in-Ok-Sent.items
@@ -32,7 +33,7 @@ pub returns-in-Ok-Nothing-clause-keeps : goal.returns-in-Ok-Nothing-clause-keeps
 returns-in-Ok-Nothing-clause-keeps g c = step_keeps _ _ _ _ _ _ _ _ _ _ _ _
     (held_turn c.args.end _ _ _ _ _ _ _ _
     c.in-Ok.ensures.items tt tt (λ log listed. tt) (rw c.in-Ok-Nothing.field-0-is at c.in-Ok-Nothing.ensures.goes))
-    tt (fills_nothing c.args.end _ _) (nothing_queue c.args.end c.args.space c.args.now c.args.size _ _ _ _
+    tt (fills_nothing c.args.end _ _) tt tt (nothing_queue c.args.end c.args.space c.args.now c.args.size _ _ _ _
     (rw c.in-Ok-Nothing.field-0-is at c.in-Ok-Nothing.ensures.waits))
     (nothing_items c.args.end c.args.space c.args.now c.args.size _ _ _ _
     (rw c.in-Ok-Nothing.field-0-is at c.in-Ok-Nothing.ensures.permits)
@@ -43,7 +44,7 @@ pub returns-in-Ok-Held-clause-keeps : goal.returns-in-Ok-Held-clause-keeps
 returns-in-Ok-Held-clause-keeps g c = step_keeps _ _ _ _ _ _ _ _ _ _ _ _
     (held_turn c.args.end _ _ _ _ _ _ _ _
     c.in-Ok.ensures.items tt tt (λ log listed. tt) (rw c.in-Ok-Held.field-0-is at c.in-Ok-Held.ensures.goes))
-    tt (fills_nothing c.args.end _ _) (still_queue c.args.end (Send c.args.end c.args.space c.args.now c.args.size) (Ok (Held c.in-Ok-Held.held)) (λ
+    tt (fills_nothing c.args.end _ _) tt tt (still_queue c.args.end (Send c.args.end c.args.space c.args.now c.args.size) (Ok (Held c.in-Ok-Held.held)) (λ
     log end. record {
       handed_same = λ measure there. refl;
       sent_same = λ measure
@@ -57,7 +58,7 @@ pub returns-in-Ok-Failed-clause-keeps : goal.returns-in-Ok-Failed-clause-keeps
 returns-in-Ok-Failed-clause-keeps g c = step_keeps _ _ _ _ _ _ _ _ _ _ _ _
     (held_turn c.args.end _ _ _ _ _ _ _ _
     c.in-Ok.ensures.items tt tt (λ log listed. tt) (rw c.in-Ok-Failed.field-0-is at c.in-Ok-Failed.ensures.goes))
-    tt (fills_nothing c.args.end _ _) (still_queue c.args.end (Send c.args.end c.args.space c.args.now c.args.size) (Ok (Failed
+    tt (fills_nothing c.args.end _ _) tt tt (still_queue c.args.end (Send c.args.end c.args.space c.args.now c.args.size) (Ok (Failed
     c.in-Ok-Failed.refused)) (λ log end. record {
       handed_same = λ measure there. refl;
       sent_same = λ measure
@@ -71,7 +72,7 @@ pub returns-in-Err-send_from-clause-keeps : goal.returns-in-Err-send_from-clause
 returns-in-Err-send_from-clause-keeps g c = step_keeps _ _ _ _ _ _ _ _ _ _ _ _
     (held_turn c.args.end _ _ _ _ _ _ _ _
     c.in-Ok.ensures.items tt tt (λ log listed. tt) c.in-Err-send_from.ensures.goes)
-    tt (fills_nothing c.args.end _ _) (still_queue c.args.end (Send c.args.end c.args.space c.args.now c.args.size) (Err c.in-Err-send_from.refused) (λ
+    tt (fills_nothing c.args.end _ _) tt tt (still_queue c.args.end (Send c.args.end c.args.space c.args.now c.args.size) (Err c.in-Err-send_from.refused) (λ
     log end. record {
       handed_same = λ measure there. refl;
       sent_same = λ measure
@@ -85,7 +86,7 @@ pub returns-in-Err-clause-keeps : goal.returns-in-Err-clause-keeps
 returns-in-Err-clause-keeps g c = step_keeps _ _ _ _ _ _ _ _ _ _ _ _
     (idle_step _ _ _ _ _ _ c.in-Err.ensures.items tt tt
     (λ log listed. tt))
-    tt (fills_nothing c.args.end _ _) (same_queue (Send c.args.end c.args.space c.args.now c.args.size) (Err (Event NoMemory)) (λ log end. record {
+    tt (fills_nothing c.args.end _ _) tt tt (same_queue (Send c.args.end c.args.space c.args.now c.args.size) (Err (Event NoMemory)) (λ log end. record {
       handed_same = λ measure there. refl;
       sent_same = λ measure there. refl;
     }) (λ log. tt) _ _)
