@@ -16,8 +16,6 @@ use Rattle.recovery_spaces.specs.Queued.{joined_with}
 use Rattle.recovery_spaces.specs.Spaces.{Space, packets_of, space_of}
 use Rattle.recovery_spaces.specs.Tracked.{SentState}
 use Rattle.recovery_spaces.proofs.PacketLaws.{number_at}
-use Rattle.recovery_events.specs.declared.event.Answer.TheVariants as answers
-use Rattle.recovery_events.specs.declared.event.Event.TheVariants as events
 use Rattle.recovery_congestion.specs.Controllers.{ControllerSemantics}
 use Rattle.recovery_history.specs.History.{History, QueueModel, begins, queue_model}
 use Rattle.recovery_history.specs.RecoveryState.{RecoveryState}

@@ -36,4 +36,5 @@ pub mod TimedLaws
 pub mod TopLaws
 pub mod TripLaws
 pub mod TurnLaws
+pub mod UnprobedLaws
 pub mod WaitLaws

@@ -19,4 +19,5 @@ pub mod Tied
 pub mod Timed
 pub mod Trips
 pub mod Turns
+pub mod Unprobed
 pub mod Waits

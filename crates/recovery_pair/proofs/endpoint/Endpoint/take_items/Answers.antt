@@ -9,5 +9,6 @@ returns-in-Err-copied-2-clause-timer g c = rw c.keep-in-Err-copied-2.ensures.goe
 
 pub returns-clause-filled : goal.returns-clause-filled
 returns-clause-filled g c = λ on none own. (
-    c.in-Ok.ensures.filled on (repeated_none _ _ c.take_waiting-queue.ensures.first none) own,
-    c.take_waiting-queue.ensures.next none)
+  c.in-Ok.ensures.filled on (repeated_none _ _ c.take_waiting-queue.ensures.first none) own,
+  c.take_waiting-queue.ensures.next none,
+)
