@@ -38,6 +38,7 @@ use Rattle.recovery_pair.specs.declared.steps.End.{End}
 use Rattle.recovery_pair.specs.declared.steps.End.TheVariants.{Client, Server}
 use Rattle.recovery_pair.specs.Filled.{AtEnd, CarryNone, FillsOutcome, KeepsSpaces, RepeatsNone, next_in}
 use Rattle.recovery_pair.specs.Pasts.{Continues, HasPast}
+use Rattle.recovery_pair.proofs.AlongLaws.{past_after}
 
 -- ---- what a probe finds
 
@@ -131,8 +132,8 @@ module _ {F Q R C K S M : Type 0} {f : _} {c : _} {q : _} {m : _} {r : _}
       let beginning = begins f.built c.words (queue_model q.contents q.words q.blank) own.config own.start own.random in
       let tracked = kept_after (RepliesAfter beginning) (AllTracked beginning) (keeps_tracked beginning)
       (none_tracked beginning) own.past own.came.replies in
-      at_most_once _ _ (ap (λ (sent : SentState (List ℕ) M). times m sent.tracked) (own.came.state_after.spaces space).sent
-      ∙ (tracked space m).same)
+      at_most_once _ _ (ap (λ (sent : SentState (List ℕ) M). times m sent.tracked)
+      (own.came.state_after.spaces space).sent ∙ (tracked space m).same)
 
   pub probe_fills : (probe : Bool) (space : SpaceId) (streams : S) (result : Result Q SenderError)
       → ProbeResult space false streams old new result
@@ -154,6 +155,9 @@ module _ {K P M : Type 0} where
   all_same : (one other : RecoveryState K P M) → other ≡ one → AreSame one other
   all_same one other same space = ap (λ (state : RecoveryState K P M). space_of space state.spaces) same
 
+  then_same : (one between other : RecoveryState K P M) → other ≡ between → AreSame one between → AreSame one other
+  then_same one between other same spaces space = all_same between other same space ∙ spaces space
+
 module _ {F K Q S M P : Type 0} (built : F → ℕ → ℕ → K) (words : ControllerSemantics K)
     (queue : QueueModel Q S M P) where
   abbrev Leads : List (SenderStep Q S M P) → RecoveryState K P M → RecoveryState K P M → Type 0
@@ -161,21 +165,21 @@ module _ {F K Q S M P : Type 0} (built : F → ℕ → ℕ → K) (words : Contr
 
   timer_same : (due : Option (ℕ × Due)) (one other : RecoveryState K P M) → Leads (timed due ∷ []) one other
       → AreSame one other
-  timer_same None one other leads space = all_same leads.0 other leads.3 space ∙ leads.1.steps.spaces space
-  timer_same (Some due) one other leads space = all_same leads.0 other leads.3 space ∙ leads.1.steps.spaces space
+  timer_same None one other leads = then_same one leads.0 other leads.3 leads.1.steps.spaces
+  timer_same (Some due) one other leads = then_same one leads.0 other leads.3 leads.1.steps.spaces
 
   transmit_same : (now size : ℕ) (checked : Bool) (sent : Transmission) (one other : RecoveryState K P M)
       → Leads (transmit_steps now size checked sent) one other → AreSame one other
-  transmit_same now size true Transmitted one other leads space =
-      all_same leads.0 other leads.3 space ∙ leads.1.steps.spaces space
-  transmit_same now size false Transmitted one other leads space =
-      all_same leads.0 other leads.3 space ∙ leads.1.steps.spaces space
-  transmit_same now size true (Delayed until) one other leads space =
-      all_same leads.0 other leads.3 space ∙ leads.1.steps.spaces space
-  transmit_same now size false (Delayed until) one other leads space =
-      all_same leads.0 other leads.3 space ∙ leads.1.steps.spaces space
-  transmit_same now size checked Blocked one other leads space = all_same one other leads space
-  transmit_same now size checked Full one other leads space = all_same one other leads space
+  transmit_same now size true Transmitted one other leads =
+      then_same one leads.0 other leads.3 leads.1.steps.spaces
+  transmit_same now size false Transmitted one other leads =
+      then_same one leads.0 other leads.3 leads.1.steps.spaces
+  transmit_same now size true (Delayed until) one other leads =
+      then_same one leads.0 other leads.3 leads.1.steps.spaces
+  transmit_same now size false (Delayed until) one other leads =
+      then_same one leads.0 other leads.3 leads.1.steps.spaces
+  transmit_same now size checked Blocked one other leads = all_same one other leads
+  transmit_same now size checked Full one other leads = all_same one other leads
 
   rearmed_same : (kept : Variables) (one other : RecoveryState K P M)
       → RearmsTimer built words queue kept one other → AreSame one other
@@ -202,14 +206,7 @@ module _ {F Q R C K S M : Type 0} {f : _} {c : _} {q : _} {m : _} {r : _} where
       → FillsOutcome space (Ok outcome) (between, same) → FillsOutcome space (Ok outcome) (old, waits)
   fills_before space (outgoing.Sent packet items window) Goes old between waits same goes kept is fills =
       λ probe none own. (
-      let on = goes.from own.config own.start own.random own.past own.came in
-      let has = fills probe none (record {
-        config = own.config;
-        start = own.start;
-        random = own.random;
-        past = on.0;
-        came = on.1;
-      }) in (
+      let has = fills probe none (past_after own goes) in (
         subst (λ (here : Space (List ℕ) M). (here.pending ≡ []) × CarryNone (packets_of here)) (kept space) has.0,
         ap (next_in space) (sym is) ∙ has.1,
       ))

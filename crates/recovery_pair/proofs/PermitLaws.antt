@@ -33,8 +33,8 @@ pub packed_agrees : {F Q R C K S M P : Type 0} {f : _} {c : _} {q : _} {m : _} {
 packed_agrees before after from space now size eliciting checked Idle ranges delay said old new
     (Sent packet items window) idle is turn waits =
     (is, turn.elicits, turn.window_is, idle)
-packed_agrees before after from space now size eliciting checked Idle ranges delay said old new (Failed refusal) idle is turn
-    waits =
+packed_agrees before after from space now size eliciting checked Idle ranges delay said old new (Failed refusal) idle is
+    turn waits =
     is
 packed_agrees before after from space now size eliciting checked Idle ranges delay said old new (Held held) idle is turn
     waits =

@@ -99,7 +99,8 @@ pub step_keeps : {F Q R C K S M : Type 0} {f : _} {c : _} {q : _} {m : _} {r : _
     (answer : Result PairAnswer SenderError)
     → ExchangeKept client server wire step answer client_after server_after wire_after → AnswersLocally (step, answer)
     → FillsProbes step answer (client, client_waits) (server, server_waits) → SendsProbes step answer client server
-    → AsksAfter step answer client_after server_after → QueueKept client_waits server_waits step answer client_waits_after server_waits_after
+    → AsksAfter step answer client_after server_after
+    → QueueKept client_waits server_waits step answer client_waits_after server_waits_after
     → ItemsKept (client, client_waits) (server, server_waits) step answer (client_after, client_waits_after)
     (server_after, server_waits_after)
     → StepKeeps client server wire client_waits server_waits step answer client_after server_after wire_after

@@ -25,7 +25,7 @@ pub record IsUnprobed (log : PairLog) (end : End) (space : SpaceId) (n : ℕ) : 
 
 -- then a packet that is sent has items
 abbrev pub ProbesUnprobed : Type 0
-ProbesUnprobed = (validated : Bool) (log : PairLog) (end : End) (space : SpaceId) (n now size number : ℕ) (items : Vec ℕ)
-    (eliciting : Bool) (window : Option ℕ) (ack : SentAck) → IsUnprobed log end space n
+ProbesUnprobed = (validated : Bool) (log : PairLog) (end : End) (space : SpaceId) (n now size number : ℕ)
+    (items : Vec ℕ) (eliciting : Bool) (window : Option ℕ) (ack : SentAck) → IsUnprobed log end space n
     → KeepsPromises validated log (Send end space now size, Ok (Sent number items eliciting window ack))
     → items.items ≢ []

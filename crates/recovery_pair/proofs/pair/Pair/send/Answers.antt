@@ -21,8 +21,9 @@ returns-in-Ok-Sent-clause-keeps g c = rw c.sent_ack-ack.ensures (step_keeps _ _ 
     (rw c.in-Ok.ensures.items at c.push_reserved.ensures.items)
     (rw c.in-Ok-Sent.field-0-is at c.in-Ok-Sent.ensures.goes))
     tt (rw c.in-Ok-Sent.field-0-is at c.in-Ok-Sent.ensures.filled)
-    (due_at c.args.space c.args.now c.args.size c.in-Ok-Sent.packet c.in-Ok-Sent.items c.in-Ok-Sent.window c.args.end _ _
-    (rw c.in-Ok-Sent.field-0-is at c.in-Ok-Sent.ensures.permits)) tt (sent_queue c.args.end c.args.space c.args.now c.args.size c.in-Ok-Sent.packet.number c.in-Ok-Sent.items
+    (due_at c.args.space c.args.now c.args.size c.in-Ok-Sent.packet c.in-Ok-Sent.items c.in-Ok-Sent.window c.args.end
+    _ _ (rw c.in-Ok-Sent.field-0-is at c.in-Ok-Sent.ensures.permits)) tt
+    (sent_queue c.args.end c.args.space c.args.now c.args.size c.in-Ok-Sent.packet.number c.in-Ok-Sent.items
     c.in-Ok-Sent.packet.eliciting c.in-Ok-Sent.window (ack_of c.in-Ok-Sent.packet) _ _ _ _
     (rw c.in-Ok-Sent.field-0-is at c.in-Ok-Sent.ensures.waits))
     (sent_items c.args.end c.args.space c.args.now c.args.size c.in-Ok-Sent.packet.number c.in-Ok-Sent.items
@@ -44,7 +45,8 @@ pub returns-in-Ok-Held-clause-keeps : goal.returns-in-Ok-Held-clause-keeps
 returns-in-Ok-Held-clause-keeps g c = step_keeps _ _ _ _ _ _ _ _ _ _ _ _
     (held_turn c.args.end _ _ _ _ _ _ _ _
     c.in-Ok.ensures.items tt tt (λ log listed. tt) (rw c.in-Ok-Held.field-0-is at c.in-Ok-Held.ensures.goes))
-    tt (fills_nothing c.args.end _ _) tt tt (still_queue c.args.end (Send c.args.end c.args.space c.args.now c.args.size) (Ok (Held c.in-Ok-Held.held)) (λ
+    tt (fills_nothing c.args.end _ _) tt tt
+    (still_queue c.args.end (Send c.args.end c.args.space c.args.now c.args.size) (Ok (Held c.in-Ok-Held.held)) (λ
     log end. record {
       handed_same = λ measure there. refl;
       sent_same = λ measure
@@ -58,7 +60,8 @@ pub returns-in-Ok-Failed-clause-keeps : goal.returns-in-Ok-Failed-clause-keeps
 returns-in-Ok-Failed-clause-keeps g c = step_keeps _ _ _ _ _ _ _ _ _ _ _ _
     (held_turn c.args.end _ _ _ _ _ _ _ _
     c.in-Ok.ensures.items tt tt (λ log listed. tt) (rw c.in-Ok-Failed.field-0-is at c.in-Ok-Failed.ensures.goes))
-    tt (fills_nothing c.args.end _ _) tt tt (still_queue c.args.end (Send c.args.end c.args.space c.args.now c.args.size) (Ok (Failed
+    tt (fills_nothing c.args.end _ _) tt tt
+    (still_queue c.args.end (Send c.args.end c.args.space c.args.now c.args.size) (Ok (Failed
     c.in-Ok-Failed.refused)) (λ log end. record {
       handed_same = λ measure there. refl;
       sent_same = λ measure
@@ -72,7 +75,8 @@ pub returns-in-Err-send_from-clause-keeps : goal.returns-in-Err-send_from-clause
 returns-in-Err-send_from-clause-keeps g c = step_keeps _ _ _ _ _ _ _ _ _ _ _ _
     (held_turn c.args.end _ _ _ _ _ _ _ _
     c.in-Ok.ensures.items tt tt (λ log listed. tt) c.in-Err-send_from.ensures.goes)
-    tt (fills_nothing c.args.end _ _) tt tt (still_queue c.args.end (Send c.args.end c.args.space c.args.now c.args.size) (Err c.in-Err-send_from.refused) (λ
+    tt (fills_nothing c.args.end _ _) tt tt
+    (still_queue c.args.end (Send c.args.end c.args.space c.args.now c.args.size) (Err c.in-Err-send_from.refused) (λ
     log end. record {
       handed_same = λ measure there. refl;
       sent_same = λ measure
@@ -86,7 +90,8 @@ pub returns-in-Err-clause-keeps : goal.returns-in-Err-clause-keeps
 returns-in-Err-clause-keeps g c = step_keeps _ _ _ _ _ _ _ _ _ _ _ _
     (idle_step _ _ _ _ _ _ c.in-Err.ensures.items tt tt
     (λ log listed. tt))
-    tt (fills_nothing c.args.end _ _) tt tt (same_queue (Send c.args.end c.args.space c.args.now c.args.size) (Err (Event NoMemory)) (λ log end. record {
+    tt (fills_nothing c.args.end _ _) tt tt
+    (same_queue (Send c.args.end c.args.space c.args.now c.args.size) (Err (Event NoMemory)) (λ log end. record {
       handed_same = λ measure there. refl;
       sent_same = λ measure there. refl;
     }) (λ log. tt) _ _)
