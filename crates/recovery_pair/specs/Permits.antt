@@ -22,7 +22,7 @@ use Rattle.recovery_pair.specs.declared.steps.PairStep.TheVariants.{Send}
 module _ (Idle : Type 0) (in_flight : Bool) (checked : Option ℕ) (said : Result Transmission SenderError) where
   -- The sender permits each packet that is sent. The answer reports whether the packet counts in flight, and the window
   -- that was checked. If a datagram is held back, the answer is the reason that the sender reports. There is nothing to
-  -- send only if the sender is idle.
+  -- send, or nothing that counts in flight, only if the sender is idle.
   abbrev pub AgreesWith : Result PairAnswer SenderError → Type 0
   AgreesWith (Ok (Sent number items eliciting window delay)) =
       (said ≡ Ok Transmitted) × (eliciting ≡ in_flight) × (window ≡ checked) × (in_flight ≡ false → Idle)
