@@ -96,7 +96,7 @@ nothing_added event log end adds = record {
 }
 
 module _ {F Q R C K S M : Type 0} {f : _} {c : _} {q : _} {m : _} {r : _} where
-  under_past : (end : End) (log : PairLog) (here : Sender F Q R C K S M (List ℕ) f c q m r × List Waiting)
+  pub under_past : (end : End) (log : PairLog) (here : Sender F Q R C K S M (List ℕ) f c q m r × List Waiting)
       (carried : CarriesItems log end here) (measure : List ℕ → ℕ) (space : SpaceId) (numbers : List ℕ)
       → all_sent_with q.contents measure space numbers carried.own.past ≡ sent_under end space measure numbers log
   under_past end log here carried measure space [] = refl

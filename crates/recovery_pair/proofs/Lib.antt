@@ -1,7 +1,9 @@
 pub mod AlongLaws
 pub mod BoundLaws
 pub mod DeadlockLaws
+pub mod ExpireLaws
 pub mod FallLaws
+pub mod FilledLaws
 pub mod FlightLaws
 pub mod FrameLaws
 pub mod GoingLaws
@@ -19,6 +21,7 @@ pub mod NewlyLaws
 pub mod PacketLaws
 pub mod PairRows
 pub mod PermitLaws
+pub mod ProbeTies
 pub mod QueueLaws
 pub mod QuietLaws
 pub mod RepeatLaws
@@ -33,4 +36,5 @@ pub mod TimedLaws
 pub mod TopLaws
 pub mod TripLaws
 pub mod TurnLaws
+pub mod UnprobedLaws
 pub mod WaitLaws

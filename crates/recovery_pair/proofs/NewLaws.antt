@@ -153,4 +153,6 @@ module _ {F Q R C K S M : Type 0} {f : _} {c : _} {q : _} {m : _} {r : _} where
         peer_waits = λ measure space. omega arith;
         own_items = carries_first side.Client config start random client one Client client_waits none adds;
         peer_items = carries_first side.Server others start words server two Server server_waits no_more adds;
+        own_asked = λ space never. absurd never;
+        peer_asked = λ space never. absurd never;
       }

@@ -1,6 +1,9 @@
 -- A datagram goes out, or is held back, by what the sender says of it.
-use Rattle.std.proofs.Common.{◌≡◌, ℕ, Bool, false, List, Option, Result, Ok}
+use Rattle.std.proofs.Common.{◌≡◌, ℕ, Bool, true, false, true≢false, List, Option, Result, Ok, refl, sym, ◌∙◌}
+use Rattle.std.specs.Global.{Vec}
 use Rattle.recovery_base.specs.declared.below.SpaceId.{SpaceId}
+use Rattle.recovery_spaces.specs.Discarded.{is_discarded}
+use Rattle.recovery_sender.specs.Senders.{state_in}
 use Rattle.recovery_sender.specs.declared.sender.Sender.{Sender}
 use Rattle.recovery_sender.specs.declared.sender.SenderError.{SenderError}
 use Rattle.recovery_sender.specs.declared.sender.packets.Transmission.{Transmission}
@@ -11,7 +14,10 @@ use Rattle.recovery_pair.specs.declared.endpoint.Waiting.{Waiting}
 use Rattle.recovery_pair.specs.declared.steps.End.{End}
 use Rattle.recovery_pair.specs.declared.steps.End.TheVariants.{Client, Server}
 use Rattle.recovery_pair.specs.declared.steps.PairAnswer.{PairAnswer}
+use Rattle.recovery_pair.specs.declared.steps.WirePacket.{WirePacket}
+use Rattle.recovery_pair.specs.Filled.{AtEnd, IsProbeIfDue}
 use Rattle.recovery_pair.specs.Permits.{AgreesAlready, AgreesWith, HoldsAt, PermitsAnswer, PermitsOutcome}
+use Rattle.recovery_pair.specs.Promises.Repeats.{is_probe}
 use Rattle.recovery_pair.specs.Turns.{PackTurn}
 use Rattle.recovery_pair.specs.Waits.{PackWaits}
 
@@ -21,19 +27,20 @@ pub packed_agrees : {F Q R C K S M P : Type 0} {f : _} {c : _} {q : _} {m : _} {
     (checked : Option ℕ) (Idle : Type 0) (ranges : List (ℕ × ℕ)) (delay : ℕ) (said : Result Transmission SenderError)
     (old new : List
     Waiting)
-    (outcome : Outgoing) → said ≡ Ok Transmitted
+    (outcome : Outgoing) → (eliciting ≡ false → Idle) → said ≡ Ok Transmitted
     → PackTurn before after from space now size eliciting checked ranges delay outcome → PackWaits old new space outcome
     → AgreesAlready Idle eliciting checked said (Ok outcome)
 packed_agrees before after from space now size eliciting checked Idle ranges delay said old new
-    (Sent packet items window) is turn waits =
-    (is, turn.elicits, turn.window_is)
-packed_agrees before after from space now size eliciting checked Idle ranges delay said old new (Failed refusal) is turn
-    waits =
+    (Sent packet items window) idle is turn waits =
+    (is, turn.elicits, turn.window_is, idle)
+packed_agrees before after from space now size eliciting checked Idle ranges delay said old new (Failed refusal) idle is
+    turn waits =
     is
-packed_agrees before after from space now size eliciting checked Idle ranges delay said old new (Held held) is turn
+packed_agrees before after from space now size eliciting checked Idle ranges delay said old new (Held held) idle is turn
     waits =
     absurd waits
-packed_agrees before after from space now size eliciting checked Idle ranges delay said old new Nothing is turn waits =
+packed_agrees before after from space now size eliciting checked Idle ranges delay said old new Nothing idle is turn
+    waits =
     absurd waits
 
 pub permits_at : {F Q R C K S M P : Type 0} {f : _} {c : _} {q : _} {m : _} {r : _} (end : End) (space : SpaceId)
@@ -56,3 +63,25 @@ pub permits_none : {F Q R C K S M P : Type 0} {f : _} {c : _} {q : _} {m : _} {r
     → HoldsAt end (PermitsAnswer space now size answer) client server
 permits_none Client space now size answer client server agrees = (false, agrees _ false _ _)
 permits_none Server space now size answer client server agrees = (false, agrees _ false _ _)
+
+-- while a probe is due, the packet is one
+module _ {F Q R C K S M P : Type 0} {f : _} {c : _} {q : _} {m : _} {r : _} (space : SpaceId) (now size : ℕ)
+    (packet : WirePacket) (items : Vec ℕ) (window : Option ℕ) where
+  due_here : (sender : Sender F Q R C K S M P f c q m r)
+      → PermitsOutcome space now size (Ok (Sent packet items window)) sender
+      → IsProbeIfDue space packet.eliciting window sender
+  due_here sender permits due = by permits.0 refl
+    where
+      kept : (gone : Bool) → is_discarded space (state_in sender).discarded ≡ gone → gone ≡ false
+      kept true is = absurd (let said = rw is at permits.1.0 in cc)
+      kept false is = refl
+
+      by : (in_flight : Bool) → permits.0 ≡ in_flight → is_probe packet.eliciting window ≡ true
+      by true is = rw (permits.1.1, permits.1.2, is, due) refl
+      by false is = absurd (true≢false (sym due ∙ (permits.1.3 is (kept _ refl)).0))
+
+  pub due_at : (end : End) (client server : Sender F Q R C K S M P f c q m r)
+      → HoldsAt end (PermitsOutcome space now size (Ok (Sent packet items window))) client server
+      → AtEnd end (IsProbeIfDue space packet.eliciting window) client server
+  due_at Client client server = due_here client
+  due_at Server client server = due_here server

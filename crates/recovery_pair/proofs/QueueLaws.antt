@@ -17,6 +17,7 @@ use Rattle.recovery_pair.specs.declared.steps.PairStep.{PairStep}
 use Rattle.recovery_pair.specs.declared.steps.SentAck.{SentAck}
 use Rattle.recovery_pair.specs.declared.steps.PairStep.TheVariants.{Local, Send}
 use Rattle.recovery_pair.specs.declared.steps.WirePacket.{WirePacket}
+use Rattle.recovery_pair.specs.Filled.{FillsProbes}
 use Rattle.recovery_pair.specs.Logs.{PairEvent, PairLog, handed, other_end, part, sent_in}
 use Rattle.recovery_pair.specs.Promises.Locals.{AnswersLocally, IsLocalAnswer}
 use Rattle.recovery_pair.specs.Promises.Sends.{SendsWhatWaits}
@@ -25,6 +26,7 @@ use Rattle.recovery_pair.specs.Turns.{TurnsAt}
 use Rattle.recovery_pair.specs.Waits.{AreQueued, LocalWaits, LosesNone, LosesOne, waiting_in}
 use Rattle.recovery_pair.proofs.ItemTies.{ItemsKept, repeats_with_cause}
 use Rattle.recovery_pair.proofs.LogLaws.{IsNoPacket}
+use Rattle.recovery_pair.proofs.ProbeTies.{AsksAfter, SendsProbes, asked_kept, probes_kept}
 use Rattle.recovery_pair.proofs.StepTies.{ExchangeKept}
 use Rattle.recovery_pair.proofs.WaitLaws.{none_lost}
 
@@ -96,13 +98,15 @@ pub step_keeps : {F Q R C K S M : Type 0} {f : _} {c : _} {q : _} {m : _} {r : _
     (client_waits server_waits client_waits_after server_waits_after : List Waiting) (step : PairStep)
     (answer : Result PairAnswer SenderError)
     → ExchangeKept client server wire step answer client_after server_after wire_after → AnswersLocally (step, answer)
+    → FillsProbes step answer (client, client_waits) (server, server_waits) → SendsProbes step answer client server
+    → AsksAfter step answer client_after server_after
     → QueueKept client_waits server_waits step answer client_waits_after server_waits_after
     → ItemsKept (client, client_waits) (server, server_waits) step answer (client_after, client_waits_after)
     (server_after, server_waits_after)
     → StepKeeps client server wire client_waits server_waits step answer client_after server_after wire_after
     client_waits_after server_waits_after
 step_keeps client server client_after server_after wire wire_after client_waits server_waits client_waits_after
-    server_waits_after step answer exchange local queue items validated log tied =
+    server_waits_after step answer exchange local fills probes asks queue items validated log tied =
     let both = exchange validated log tied.ends in
     let one = both.0 in
     let two = queue log tied.own_waits tied.peer_waits in
@@ -127,6 +131,8 @@ step_keeps client server client_after server_after wire wire_after client_waits 
           resends = three.0;
           repeats = repeats_with_cause ((step, answer) ∷ log) (client_after, client_waits_after)
               (server_after, server_waits_after) three.1 three.2;
+          probes = probes_kept client server wire client_waits server_waits step answer fills probes
+              validated log tied;
           local = local;
         },
         one.1,
@@ -137,6 +143,8 @@ step_keeps client server client_after server_after wire wire_after client_waits 
         peer_waits = two.2;
         own_items = three.1;
         peer_items = three.2;
+        own_asked = (asked_kept client_after server_after step answer log asks).0;
+        peer_asked = (asked_kept client_after server_after step answer log asks).1;
       },
     )
 

@@ -73,7 +73,7 @@ module _ {P M : Type 0} (measure : P → ℕ) where
     owed_without_some packets (Some n) = owed_without packets n
 
     -- a packet is lost
-    owed_lost : (packets : Packets P M) (n : ℕ) (packet : Packet P M) → packet_at packets n ≡ Some packet
+    pub owed_lost : (packets : Packets P M) (n : ℕ) (packet : Packet P M) → packet_at packets n ≡ Some packet
         → by n + owed by (without packets n) ≤ owed by packets + measure packet.retransmits
     owed_lost [] n packet found = none_found packet found
     owed_lost (entry ∷ packets) n packet found =
@@ -338,18 +338,21 @@ module _ {F K Q S M P : Type 0} (beginning : Beginning F K Q S M P) (measure : P
         (kept.owes (keys_before event reply before keys)) event reply told keys;
   }
 
-  -- what was lost waits, or was taken
+  -- what packets in flight have no more, and what was lost, waits or was taken
+  pub owes_now : (history : History Q S M P) → AtEach (RepliesAfter beginning) history
+      → is_discarded space history ≡ false → OwesIn beginning measure adds space history
+  owes_now history replies = (kept_after (RepliesAfter beginning) Requeues keeps_owed (record {
+    tracked = none_tracked beginning;
+    carry = none_carry beginning;
+    owes = λ keys. omega arith;
+  }) history replies).owes
+
+  -- so does what was lost
   pub requeues_lost : (history : History Q S M P) → AtEach (RepliesAfter beginning) history
       → is_discarded space history ≡ false
       → lost_there beginning.queue.contents measure space history
       ≤ taken_there beginning.queue.contents measure space history
       + measure (queued_by beginning.queue.words ((logs_of beginning history).spaces space)).pending
   requeues_lost history replies keys =
-      let none = adds.none in
-      let all = kept_after (RepliesAfter beginning) Requeues keeps_owed (record {
-        tracked = none_tracked beginning;
-        carry = none_carry beginning;
-        owes = λ keys. omega arith;
-      }) history replies in
-      let owes = all.owes keys in
+      let owes = owes_now history replies keys in
       omega (arith, owes)

@@ -25,6 +25,7 @@ use Rattle.recovery_sender.specs.Calls.{IsAnsweredEvent, IsEventResult, ProbeRes
 use Rattle.recovery_sender.specs.Senders.{state_in}
 use Rattle.recovery_sender.specs.Steps.{CompletesCall, SenderStep, TakesSteps, told}
 use Rattle.recovery_sender.specs.Timeouts.{TimeoutResult}
+use Rattle.recovery_sender.specs.Timer.{TimerIsSet}
 use Rattle.recovery_sender.specs.declared.sender.Sender.{Sender}
 use Rattle.recovery_sender.specs.declared.sender.SenderError.{SenderError}
 use Rattle.recovery_sender.specs.declared.sender.SenderError.TheVariants as refused
@@ -61,12 +62,13 @@ module _ {F Q R C K S M P : Type 0} {f : _} {c : _} {q : _} {m : _} {r : _} (old
         (steps : List (SenderStep Q S M P)) (kept : Variables) → CompletesCall steps kept from new
         → known_of kept ≡ after (known_of old.variables) → KeepsTimerAs after old new
     call_timer after from steps kept does knows known has =
-        (does.running, ap known_of does.variables ∙ knows ∙ ap after has.1)
+        (does.running, ap known_of does.variables ∙ knows ∙ ap after has.1, does.timer)
 
     abbrev TimedBy : RecoveryState K P M → Variables → Type 0
-    TimedBy state variables = (config : RecoveryConfig F) (start : ℕ) (random : Stream) (past : History Q S M P)
+    TimedBy state variables = ((config : RecoveryConfig F) (start : ℕ) (random : Stream) (past : History Q S M P)
         → (let beginning = begins f.built c.words (queue_model q.contents q.words q.blank) config start random in
-        ReachedBy beginning past state → IsTimerByEvents beginning past state variables)
+        ReachedBy beginning past state → IsTimerByEvents beginning past state variables))
+        × TimerIsSet state variables
 
     unchanged : (event : Event Q S M P) (refusal : Refusal) (between : RecoveryState K P M)
         → StateTransition (queue_model q.contents q.words q.blank) (state_in old) event (Err refusal) between
@@ -89,11 +91,10 @@ module _ {F Q R C K S M P : Type 0} {f : _} {c : _} {q : _} {m : _} {r : _} (old
     failed_timer event fails refusal takes known has =
         let changes = takes.leads.1 in
         let same = takes.leads.3 ∙ unchanged event refusal takes.leads.0 changes
-        (plainly event fails refusal _ _ changes.plain) in (
-          subst (λ (kept : Variables). TimedBy (state_in new) kept) (sym takes.variables)
-              (subst (λ (state : RecoveryState K P M). TimedBy state old.variables) (sym same) has.0),
-          ap known_of takes.variables ∙ has.1,
-        )
+        (plainly event fails refusal _ _ changes.plain) in
+        let timed = subst (λ (kept : Variables). TimedBy (state_in new) kept) (sym takes.variables)
+        (subst (λ (state : RecoveryState K P M). TimedBy state old.variables) (sym same) (has.0, has.2)) in
+        (timed.0, ap known_of takes.variables ∙ has.1, timed.1)
 
     -- an event that passes and leaves the path in use
     pub event_timer : (event : Event Q S M P) → FailsWithoutChange event → changes_path event ≡ false

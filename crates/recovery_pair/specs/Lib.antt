@@ -1,7 +1,9 @@
 pub mod AddressKnown
 pub mod Carried
 pub mod Congested
+pub mod Expires
 pub mod Falls
+pub mod Filled
 pub mod Flights
 pub mod Frames
 pub mod LeastWindows
@@ -17,4 +19,5 @@ pub mod Tied
 pub mod Timed
 pub mod Trips
 pub mod Turns
+pub mod Unprobed
 pub mod Waits

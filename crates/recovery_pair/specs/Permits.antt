@@ -22,10 +22,10 @@ use Rattle.recovery_pair.specs.declared.steps.PairStep.TheVariants.{Send}
 module _ (Idle : Type 0) (in_flight : Bool) (checked : Option ℕ) (said : Result Transmission SenderError) where
   -- The sender permits each packet that is sent. The answer reports whether the packet counts in flight, and the window
   -- that was checked. If a datagram is held back, the answer is the reason that the sender reports. There is nothing to
-  -- send only if the sender is idle.
+  -- send, or nothing that counts in flight, only if the sender is idle.
   abbrev pub AgreesWith : Result PairAnswer SenderError → Type 0
   AgreesWith (Ok (Sent number items eliciting window delay)) =
-      (said ≡ Ok Transmitted) × (eliciting ≡ in_flight) × (window ≡ checked)
+      (said ≡ Ok Transmitted) × (eliciting ≡ in_flight) × (window ≡ checked) × (in_flight ≡ false → Idle)
   AgreesWith (Ok (Failed refusal)) = said ≡ Ok Transmitted
   AgreesWith (Ok (Held held)) = (said ≡ Ok held) × (held ≡ Transmitted → ⊥)
   AgreesWith (Ok Nothing) = Idle
@@ -34,7 +34,7 @@ module _ (Idle : Type 0) (in_flight : Bool) (checked : Option ℕ) (said : Resul
   -- the answer that an outcome gives, as far as it matters here
   abbrev pub AgreesAlready : Result Outgoing SenderError → Type 0
   AgreesAlready (Ok (outgoing.Sent packet items window)) =
-      (said ≡ Ok Transmitted) × (packet.eliciting ≡ in_flight) × (window ≡ checked)
+      (said ≡ Ok Transmitted) × (packet.eliciting ≡ in_flight) × (window ≡ checked) × (in_flight ≡ false → Idle)
   AgreesAlready (Ok (outgoing.Failed refusal)) = said ≡ Ok Transmitted
   AgreesAlready (Ok (outgoing.Held held)) = (said ≡ Ok held) × (held ≡ Transmitted → ⊥)
   AgreesAlready (Ok outgoing.Nothing) = Idle

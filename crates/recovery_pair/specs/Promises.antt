@@ -12,6 +12,7 @@ use Rattle.recovery_pair.specs.Promises.LargestAcked.{AcksLargest}
 use Rattle.recovery_pair.specs.Promises.Locals.{AnswersLocally}
 use Rattle.recovery_pair.specs.Promises.NeverAccused.{NeverAccuses}
 use Rattle.recovery_pair.specs.Promises.Newly.{AcksInFlight}
+use Rattle.recovery_pair.specs.Promises.Probes.{ProbesForFlight}
 use Rattle.recovery_pair.specs.Promises.Repeats.{RepeatsWithCause}
 use Rattle.recovery_pair.specs.Promises.Resends.{ResendsWhatIsLost}
 use Rattle.recovery_pair.specs.Promises.RttSamples.{SamplesRoundTrips}
@@ -27,6 +28,7 @@ pub mod LargestAcked
 pub mod Locals
 pub mod NeverAccused
 pub mod Newly
+pub mod Probes
 pub mod Repeats
 pub mod Resends
 pub mod RttSamples
@@ -72,5 +74,8 @@ pub record KeepsPromises (validated : Bool) (log : PairLog) (event : PairEvent) 
   -- Nothing is sent again without cause (RFC 9000, 13.3; RFC 9002, 6.2.4). An endpoint sends in a space at most what
   -- was passed to it, what it reported as lost, and what its probes carry. By every measure of items that adds up.
   pub repeats : RepeatsWithCause (event ∷ log)
+  -- After a probe timeout the next packet of the space is a probe. A probe has items while any are in flight that no
+  -- probe had yet (RFC 9002, 6.2.4). By every measure of items that adds up.
+  pub probes : ProbesForFlight log event
   -- A step of one endpoint has an answer of its kind, never another (RFC 9002, 6.2 and 6.4).
   pub local : AnswersLocally event

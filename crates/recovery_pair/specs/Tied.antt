@@ -3,6 +3,7 @@ use Rattle.std.specs.Prelude.{◌≡◌, ℕ, ◌<◌, ◌≤◌, ◌⊎◌, Boo
 use Rattle.std.specs.List.{AllByRecursion}
 use Rattle.recovery_base.specs.declared.below.SpaceId.{SpaceId}
 use Rattle.recovery_base.specs.Units.{number_limit}
+use Rattle.recovery_losses.specs.Variables.{is_probe_due}
 use Rattle.recovery_losses.specs.Frames.{IsInAckRanges, largest_of}
 use Rattle.recovery_history.specs.History.{History}
 use Rattle.recovery_history.specs.Promises.Acknowledged.{WasReceived}
@@ -23,6 +24,7 @@ use Rattle.recovery_pair.specs.Carried.{CarriesItems}
 use Rattle.recovery_pair.specs.Waits.{AreQueued}
 use Rattle.recovery_pair.specs.Pasts.{Came, HasPast, WasSentUnder, bytes_received, bytes_transmitted, flight_in, largest_came, silent_bytes}
 use Rattle.recovery_pair.specs.Promises.Delays.{largest_new}
+use Rattle.recovery_pair.specs.Promises.Probes.{IsAsked}
 use Rattle.recovery_pair.specs.Rising.{AcksRise}
 
 -- ---- one number, from one end to the other
@@ -102,6 +104,11 @@ pub record IsLogged {Q S M P : Type 0} (validated : Bool) (log : PairLog) (end :
   pub silent : silent_bytes past ≤ 0
 
 module _ {F Q R C K S M P : Type 0} {f : _} {c : _} {q : _} {m : _} {r : _} where
+  -- if the last step asked an endpoint for probes in a space, they are due there
+  abbrev pub AsksProbes : PairLog → End → Sender F Q R C K S M P f c q m r → Type 0
+  AsksProbes log end sender =
+      (space : SpaceId) → IsAsked log end space → is_probe_due sender.variables space ≡ true
+
   -- ---- both ends, as one of them sees it
 
   pub record IsTiedAt (validated : Bool) (end : End) (log : PairLog) (here there : Sender F Q R C K S M P f c q m r)
@@ -127,3 +134,5 @@ module _ {F Q R C K S M : Type 0} {f : _} {c : _} {q : _} {m : _} {r : _} where
     pub peer_waits : AreQueued log Server server_waits
     pub own_items : CarriesItems log Client (client, client_waits)
     pub peer_items : CarriesItems log Server (server, server_waits)
+    pub own_asked : AsksProbes log Client client
+    pub peer_asked : AsksProbes log Server server

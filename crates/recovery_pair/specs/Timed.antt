@@ -6,6 +6,7 @@ use Rattle.recovery_sender.specs.declared.sender.Sender.{Sender}
 use Rattle.recovery_sender.specs.Promises.Liveness.{IsTimerByEvents}
 use Rattle.recovery_sender.specs.Promises.Pasts.{ForEveryRun}
 use Rattle.recovery_sender.specs.Senders.{state_in}
+use Rattle.recovery_sender.specs.Timer.{TimerIsSet}
 use Rattle.recovery_pair.specs.declared.steps.End.{End}
 use Rattle.recovery_pair.specs.declared.steps.End.TheVariants.{Client, Server}
 use Rattle.recovery_pair.specs.AddressKnown.{Known, known_after, known_of}
@@ -16,9 +17,10 @@ module _ {F Q R C K S M P : Type 0} {f : _} {c : _} {q : _} {m : _} {r : _} wher
   HasTimerByEvents sender =
       ForEveryRun sender (λ beginning past. IsTimerByEvents beginning past (state_in sender) sender.variables)
 
-  -- and it knows this of the handshake
+  -- it is set to what is due (RFC 9002, A.8), and the sender knows this of the handshake
   abbrev pub IsTimedAs : Known → Sender F Q R C K S M P f c q m r → Type 0
   IsTimedAs known sender = HasTimerByEvents sender × (known_of sender.variables ≡ known)
+      × TimerIsSet (state_in sender) sender.variables
 
   -- it is still so after a call, by which the sender learns this
   abbrev pub KeepsTimerAs : (Known → Known) → Sender F Q R C K S M P f c q m r → Sender F Q R C K S M P f c q m r

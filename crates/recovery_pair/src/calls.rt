@@ -1,18 +1,20 @@
 //! The calls of a sender that an end makes, and how each continues the sender's past.
 ghost use Rattle.std.specs.Prelude.{◌≡◌, ◌≢◌, [], ◌∷◌, true, IfOk, MatchResult, Some};
-ghost use Rattle.recovery_pair.specs.AddressKnown.{known_by_ack, with_confirmation, with_keys};
+ghost use Rattle.recovery_pair.specs.AddressKnown.{Known, known_by_ack, with_confirmation, with_keys};
 ghost use Rattle.recovery_pair.specs.Carried.{Carries, CarriesNone, losing, lost_by_ack, lost_by_timeout, sending_with, taking};
+ghost use Rattle.recovery_pair.specs.Expires.{ActsInTime, AsksIn, expired};
 ghost use Rattle.recovery_pair.specs.Falls.{FindsWithCause};
+ghost use Rattle.recovery_pair.specs.Filled.{KeepsSpaces, RepeatsNone};
 ghost use Rattle.recovery_pair.specs.Flights.{counted_if};
 ghost use Rattle.recovery_pair.specs.Frames.{IsFrameFor};
 ghost use Rattle.recovery_losses.specs.Frames.{largest_of};
 ghost use Rattle.recovery_pair.specs.LeastWindows.{IsLeastIf, KeepsLeastWindow, persists_by_ack, persists_by_timeout};
 ghost use Rattle.recovery_pair.specs.Newly.{AcksFlightBy};
-ghost use Rattle.recovery_pair.specs.Pasts.{Continues, GoesOn, GoesOnQuietly, HearsNumber, NoAccusation, SampledBy, SendsNumber, AcksWithin, arm_told, arriving, discarding, ending, endings_by_ack, heard_of, no_endings, validating, with_congestion};
+ghost use Rattle.recovery_pair.specs.Pasts.{Continues, GoesOn, GoesOnQuietly, HasPast, HearsNumber, NoAccusation, SampledBy, SendsNumber, AcksWithin, arm_told, arriving, discarding, ending, endings_by_ack, heard_of, no_endings, validating, with_congestion};
 ghost use Rattle.recovery_pair.specs.Promises.Framed.{HasFrame};
 ghost use Rattle.recovery_pair.specs.Permits.{FitsChecked, said_by, window_checked};
 ghost use Rattle.recovery_pair.specs.Promises.Repeats.{is_probe};
-ghost use Rattle.recovery_pair.specs.Timed.{KeepsTimer, KeepsTimerAs};
+ghost use Rattle.recovery_pair.specs.Timed.{IsTimedAs, KeepsTimer, KeepsTimerAs};
 ghost use Rattle.recovery_pair.specs.Turns.{FitsIfPermitted, TransmitTurn, TriesTurn, timeout_turn};
 
 use crate::steps::{AckOutcome, WirePacket};
@@ -119,6 +121,7 @@ where
     ensures goes { TransmitTurn sender.old sender.new size result }
     ensures said { result ≡ said_by sender.old space now size eliciting }
     ensures fits { FitsIfPermitted sender.old space size eliciting result }
+    ensures spaces { KeepsSpaces sender.old sender.new }
     ensures timer { KeepsTimer sender.old sender.new }
     ensures items { CarriesNone sender.old sender.new }
 {
@@ -146,6 +149,8 @@ where
     ensures items { MatchResult result
         (λ queue. Carries (taking probe space queue) sender.old sender.new)
         (λ refused. CarriesNone sender.old sender.new) }
+    ensures filled { IfOk result (λ queue. probe ≡ true → queue ≡ []
+        → HasPast sender.old → RepeatsNone space sender.old) }
 {
     if probe {
         return sender.probe(space, false, ());
@@ -320,6 +325,9 @@ where
     ensures goes { Continues (GoesOn (timeout_turn result)) sender.old sender.new }
     ensures timer { KeepsTimer sender.old sender.new }
     ensures items { Carries (losing (lost_by_timeout result)) sender.old sender.new }
+    ensures acts { (known : Known) → IsTimedAs known sender.old
+        → ActsInTime now (expired result) sender.old sender.new }
+    ensures asks { AsksIn (expired result) sender.new }
     ensures least { IsLeastIf (persists_by_timeout result) sender.new }
     ensures finds { FindsWithCause (persists_by_timeout result) (lost_by_timeout result) now
         (λ congests. GoesOn (record (timeout_turn result) { congests = congests }))

@@ -3,6 +3,8 @@ ghost use Rattle.std.specs.Prelude.{◌≡◌, ◌⊎◌, ◌+◌, ◌<◌, ◌�
 ghost use Rattle.std.specs.Vec.{vec_len, vec_capacity};
 ghost use Rattle.recovery_pair.specs.AddressKnown.{known_by_fate, known_by_step};
 ghost use Rattle.recovery_pair.specs.Carried.{CarriesNone, Exchanges, IsNoProbe, MovesBack, MovesItems, MovesSent, TakesItems, hands_by, lost_by_fate, lost_by_local, none_lost};
+ghost use Rattle.recovery_pair.specs.Expires.{AsksAt, ExpiresInTime};
+ghost use Rattle.recovery_pair.specs.Filled.{FillsOutcome, IsFilled, IsNextAt, next_in};
 ghost use Rattle.recovery_pair.specs.LeastWindows.{IsLeastIf, KeepsLeastWindow, persists_by_fate, persists_by_timer};
 ghost use Rattle.recovery_pair.specs.Pasts.{Continues, GoesOn, GoesOnQuietly};
 ghost use Rattle.recovery_pair.specs.Turns.{FindsByTimer, HearTurn, PackTurn, SendTurn, local_turn};
@@ -66,7 +68,8 @@ pub enum Outgoing {
 
 /// Returns the place of the items that wait longest to be sent in a space, if any.
 fn place_of(waiting: &[Waiting], space: SpaceId) -> Option<usize>
-    ensures { IsPlaceInQueue space waiting.now result }
+    ensures place { IsPlaceInQueue space waiting.now result }
+    ensures next { IsNextAt space waiting.now result }
 {
     let mut at = 0;
     while at < waiting.len() {
@@ -86,6 +89,7 @@ fn take_waiting(waiting: &mut Vec<Waiting>, space: SpaceId, repeated: ItemQueue)
     ensures capacity { vec_capacity waiting.new ≡ vec_capacity waiting.old }
     ensures items { Exchanges waiting.old.items waiting.new.items space repeated result }
     ensures first { (repeated ≡ []) ⊎ (result ≡ repeated) }
+    ensures next { result ≡ [] → next_in space waiting.old.items ≡ [] }
 {
     if !repeated.items().is_empty() {
         return repeated;
@@ -144,6 +148,7 @@ where
         ensures timer { KeepsTimer self.old.sender self.new.sender }
         ensures items { MovesSent space result (self.old.sender, self.old.waiting.items)
             (self.new.sender, self.new.waiting.items) }
+        ensures filled { FillsOutcome space result (self.old.sender, self.old.waiting.items) }
     {
         let eliciting = self.has_items(space);
         let ack = match frame(alloc, &self.sender, space, now) {
@@ -186,6 +191,8 @@ where
         ensures timer { KeepsTimer self.old.sender self.new.sender }
         ensures items { MovesSent space (Ok result) (self.old.sender, self.old.waiting.items)
             (self.new.sender, self.new.waiting.items) }
+        ensures filled { FillsOutcome space (Ok result)
+            (self.old.sender, self.old.waiting.items) }
     {
         let probe = is_probe(eliciting, &window);
         let TakenItems { queue, items, told } = match self.take_items(alloc, space, probe) {
@@ -246,6 +253,8 @@ where
             (self.new.sender, self.new.waiting.items))
             (λ refused. MovesBack space (self.old.sender, self.old.waiting.items)
             (self.new.sender, self.new.waiting.items)) }
+        ensures filled { IfOk result (λ taken.
+            IsFilled probe space taken.queue (self.old.sender, self.old.waiting.items)) }
     {
         let repeated = match contents(&mut self.sender, space, probe) {
             Ok(queue) => queue,
@@ -382,6 +391,8 @@ where
             (self.new.sender, self.new.waiting.items) }
         ensures least { IsLeastIf (persists_by_timer result) self.new.sender }
         ensures finds { FindsByTimer step result self.old.sender self.new.sender }
+        ensures acts { ExpiresInTime step result self.old.sender self.new.sender }
+        ensures asks { AsksAt step result self.new.sender }
     {
         match step {
             LocalStep::Hand { space, items } => self.hand(space, items),

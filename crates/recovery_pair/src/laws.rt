@@ -1,9 +1,15 @@
-//! Laws of controllers that the promises of two endpoints have as a premise.
+//! Laws of controllers that the promises of two endpoints have as a premise, and what follows from several promises.
 ghost use Rattle.recovery_congestion.specs.NewReno.{reno_words};
 ghost use Rattle.recovery_pair.specs.Falls.{FallsByRecovery};
+ghost use Rattle.recovery_pair.specs.Unprobed.{ProbesUnprobed};
 
 /// Proves that NewReno's window falls only if congestion begins a recovery period, for a packet that was sent after the
 /// last one began (RFC 9002, 7.3.2).
 pub fn new_reno_recovers()
     ensures { FallsByRecovery reno_words }
+{}
+
+/// Proves that an item whose packet is lost once is sent again after the probe timeout (RFC 9002, 6.2.4).
+pub fn unprobed_items_are_sent()
+    ensures { ProbesUnprobed }
 {}

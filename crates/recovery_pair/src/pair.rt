@@ -4,6 +4,8 @@ ghost use Rattle.recovery_base.specs.Units.{number_limit};
 ghost use Rattle.recovery_packet_numbers.specs.Skips.{IsSkips};
 ghost use Rattle.recovery_pair.specs.AddressKnown.{known_at, known_by_fate, known_by_step};
 ghost use Rattle.recovery_pair.specs.Carried.{IsNoProbe, MovesItems, MovesSent, hands_by, lost_by_fate, lost_by_local};
+ghost use Rattle.recovery_pair.specs.Expires.{AsksAt, ExpiresAtEnd, ExpiresInTime};
+ghost use Rattle.recovery_pair.specs.Filled.{AtEnd, FillsAnswer, FillsOutcome, FillsProbes};
 ghost use Rattle.recovery_pair.specs.LeastWindows.{AreLeastAfter, IsLeastIf, persists_by_fate, persists_by_timer};
 ghost use Rattle.recovery_pair.specs.NoDeadlock.{HoldsWithCause, IfTied, NeverStuck};
 ghost use Rattle.recovery_pair.specs.Pasts.{Continues, GoesOn};
@@ -76,6 +78,9 @@ where
         (server.old.sender, server.old.waiting.items)
         (client.new.sender, client.new.waiting.items)
         (server.new.sender, server.new.waiting.items) }
+    ensures filled { AtEnd end (FillsOutcome space result)
+        (client.old.sender, client.old.waiting.items)
+        (server.old.sender, server.old.waiting.items) }
 {
     match end {
         End::Client => client.send(alloc, end, space, now, size),
@@ -145,6 +150,9 @@ where
         client.old.sender server.old.sender client.new.sender server.new.sender }
     ensures finds { TurnsAt end (FindsByTimer step result) client.old.sender server.old.sender
         client.new.sender server.new.sender }
+    ensures acts { TurnsAt end (ExpiresInTime step result) client.old.sender server.old.sender
+        client.new.sender server.new.sender }
+    ensures asks { AtEnd end (AsksAt step result) client.new.sender server.new.sender }
 {
     match end {
         End::Client => client.local(step),
@@ -208,6 +216,15 @@ where
             self.old.wire.items self.old.client.waiting.items self.old.server.waiting.items step
             result self.new.client.sender self.new.server.sender }
 
+        // The loss detection timer acts at its time, and not before (RFC 9002, 6.2 and A.9).
+        ensures expires { ExpiresAtEnd step result self.old.client.sender self.old.server.sender
+            self.new.client.sender self.new.server.sender }
+
+        // A probe has items if there are any to send (RFC 9002, 6.2.4).
+        ensures filled { FillsProbes step result
+            (self.old.client.sender, self.old.client.waiting.items)
+            (self.old.server.sender, self.old.server.waiting.items) }
+
         // Persistent congestion leaves the smallest window (RFC 9002, 7.6.2).
         ensures least { AreLeastAfter (step, result) self.new.client.sender self.new.server.sender }
     {
@@ -238,6 +255,9 @@ where
             self.new.server.waiting.items }
         ensures permits { HoldsAt end (PermitsAnswer space now size result)
             self.old.client.sender self.old.server.sender }
+        ensures filled { AtEnd end (FillsAnswer space result)
+            (self.old.client.sender, self.old.client.waiting.items)
+            (self.old.server.sender, self.old.server.waiting.items) }
         ensures timer_set { KeepsTimers (PairStep.Send end space now size, result)
             self.old.client.sender self.old.server.sender self.new.client.sender
             self.new.server.sender }
@@ -321,6 +341,8 @@ where
             (PairStep.Local end step) result self.new.client.sender self.new.server.sender
             self.new.wire.items self.new.client.waiting.items self.new.server.waiting.items }
         ensures timer_set { KeepsTimers (PairStep.Local end step, result) self.old.client.sender
+            self.old.server.sender self.new.client.sender self.new.server.sender }
+        ensures expires { TurnsAt end (ExpiresInTime step result) self.old.client.sender
             self.old.server.sender self.new.client.sender self.new.server.sender }
         ensures least { AreLeastAfter (PairStep.Local end step, result) self.new.client.sender
             self.new.server.sender }

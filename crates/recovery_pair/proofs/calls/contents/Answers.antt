@@ -1,4 +1,5 @@
-use Rattle.std.proofs.Common.{false, refl}
+use Rattle.std.proofs.Common.{false, true≢false, refl, sym, ◌∙◌}
+use Rattle.recovery_pair.proofs.FilledLaws.{probe_fills}
 use Rattle.recovery_pair.proofs.AlongLaws.{passes_so}
 use Rattle.recovery_pair.proofs.QuietLaws.{ending_along, probe_quietly}
 use Rattle.recovery_pair.specs.Pasts.{no_endings}
@@ -43,3 +44,10 @@ returns-in-Err-clause-items g c = failed_carries (TakePending c.args.space) _ _
 pub returns-then-probe-clause-items : goal.returns-then-probe-clause-items
 returns-then-probe-clause-items g c = rw c.if-probe.true (probe_matches c.args.space false tt c.probe.result
     c.args.sender.now c.probe.new.self c.probe.ensures)
+
+pub returns-then-probe-clause-filled : goal.returns-then-probe-clause-filled
+returns-then-probe-clause-filled g c = probe_fills c.args.sender.now c.probe.new.self refl c.args.probe c.args.space
+    tt c.probe.result c.probe.ensures
+
+pub returns-in-Ok-Queue-clause-filled : goal.returns-in-Ok-Queue-clause-filled
+returns-in-Ok-Queue-clause-filled g c = λ on none own. absurd (true≢false (sym on ∙ c.if-probe.false))

@@ -1,5 +1,6 @@
 use Rattle.std.proofs.Common.{refl}
 use Rattle.recovery_sender.specs.Calls.{is_checked}
+use Rattle.recovery_pair.proofs.FilledLaws.{spaces_kept}
 use Rattle.recovery_pair.proofs.PacketLaws.{may_transmit}
 use Rattle.recovery_pair.proofs.TimedLaws.{tries_timer}
 use Rattle.recovery_pair.proofs.TurnLaws.{fits_checked}
@@ -22,5 +23,10 @@ returns-clause-timer g c = tries_timer c.args.sender.now c.transmit.new.self _ _
 
 pub returns-clause-items : goal.returns-clause-items
 returns-clause-items g c = transmit_carries c.args.now c.args.size (is_checked c.args.sender.now.variables c.args.space
+    c.args.eliciting) c.args.sender.now.variables c.args.sender.now c.transmit.new.self c.transmit.result
+    c.transmit.ensures.steps c.transmit.ensures.refused
+
+pub returns-clause-spaces : goal.returns-clause-spaces
+returns-clause-spaces g c = spaces_kept c.args.now c.args.size (is_checked c.args.sender.now.variables c.args.space
     c.args.eliciting) c.args.sender.now.variables c.args.sender.now c.transmit.new.self c.transmit.result
     c.transmit.ensures.steps c.transmit.ensures.refused

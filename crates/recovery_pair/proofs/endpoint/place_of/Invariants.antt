@@ -1,4 +1,5 @@
 use Rattle.std.proofs.Common.{◌≡◌, ◌≤◌, ◌-◌, ℕ, List, length, drop}
+use Rattle.recovery_pair.specs.Filled.{next_in}
 use Rattle.recovery_pair.specs.Waits.{waiting_in}
 use Rattle.recovery_pair.proofs.endpoint.place_of.Given as goal
 
@@ -6,6 +7,7 @@ abbrev pub invariant-loop-at : goal.invariant-loop-at
 invariant-loop-at l = record {
   passed : (measure : List ℕ → ℕ) → waiting_in measure l.fn.space l.fn.waiting
       ≡ waiting_in measure l.fn.space (drop l.at l.fn.waiting);
+  next : next_in l.fn.space l.fn.waiting ≡ next_in l.fn.space (drop l.at l.fn.waiting);
   within : l.at ≤ length l.fn.waiting;
 }
 

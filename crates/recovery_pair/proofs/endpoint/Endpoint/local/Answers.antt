@@ -12,6 +12,18 @@ returns-in-Ok-clause-finds g c = rw c.in-Expire.is c.in-Ok.ensures.finds
 pub returns-in-Err-clause-finds : goal.returns-in-Err-clause-finds
 returns-in-Err-clause-finds g c = rw c.in-Expire.is c.in-Err.ensures.finds
 
+pub returns-in-Ok-clause-acts : goal.returns-in-Ok-clause-acts
+returns-in-Ok-clause-acts g c = rw c.in-Expire.is c.in-Ok.ensures.acts
+
+pub returns-in-Err-clause-acts : goal.returns-in-Err-clause-acts
+returns-in-Err-clause-acts g c = rw c.in-Expire.is c.in-Err.ensures.acts
+
+pub returns-in-Ok-clause-asks : goal.returns-in-Ok-clause-asks
+returns-in-Ok-clause-asks g c = rw c.in-Expire.is c.in-Ok.ensures.asks
+
+pub returns-in-Err-clause-asks : goal.returns-in-Err-clause-asks
+returns-in-Err-clause-asks g c = rw c.in-Expire.is tt
+
 pub returns-in-HandshakeKeys-clause-timer : goal.returns-in-HandshakeKeys-clause-timer
 returns-in-HandshakeKeys-clause-timer g c = rw c.in-HandshakeKeys.is assumption
 

@@ -1,4 +1,4 @@
-use Rattle.std.proofs.Common.{ℕ, Option, refl, ap, subst, ◌∙◌}
+use Rattle.std.proofs.Common.{ℕ, Option, refl, sym, ap, subst, ◌∙◌}
 use Rattle.recovery_losses.specs.Frames.{largest_of}
 use Rattle.recovery_pair.specs.Pasts.{Continues, SendsNumber}
 use Rattle.recovery_pair.specs.Flights.{counted_if}
@@ -56,3 +56,7 @@ returns-in-Err-track-clause-items g c =
     let first = c.in-Ok.ensures.copies.0 in
     keeps_move c.is_probe-probe.result c.args.space c.in-Ok.taken.queue c.from_items.result _ _ _ _ _ _
     c.in-Ok.ensures.items (rw c.keep.ensures.goes c.in-Err-track.ensures.items) c.keep.ensures.items cc
+
+pub returns-in-Ok-track-clause-filled : goal.returns-in-Ok-track-clause-filled
+returns-in-Ok-track-clause-filled g c = let second = c.in-Ok.ensures.copies.1 in λ on none own.
+    c.in-Ok.ensures.filled (c.is_probe-probe.ensures ∙ on) (sym second ∙ none) own

@@ -1,5 +1,6 @@
 use Rattle.std.proofs.Common.{ℕ, Option, Ok, subst, sym}
 use Rattle.recovery_pair.specs.Permits.{AgreesAlready, IsIdle, said_by}
+use Rattle.recovery_pair.proofs.FilledLaws.{fills_before}
 use Rattle.recovery_pair.proofs.PermitLaws.{packed_agrees}
 use Rattle.recovery_pair.proofs.TurnLaws.{packed_turn}
 use Rattle.recovery_pair.proofs.ItemMoves.{then_sends}
@@ -25,7 +26,8 @@ returns-clause-permits g c =
           (packed_agrees c.transmit.new.sender c.pack.new.self.sender c.args.from c.args.space c.args.now
           c.args.size
           c.has_items-eliciting.result c.window_checked-window.result _ c.in-Ok.ack.ranges.items c.in-Ok.ack.delay _
-          c.reserve.new.self.items c.pack.new.self.waiting.items c.pack.result (sym transmits.said) c.pack.ensures.goes
+          c.reserve.new.self.items c.pack.new.self.waiting.items c.pack.result
+          c.has_items-eliciting.ensures.idle (sym transmits.said) c.pack.ensures.goes
           c.pack.ensures.waits),
     )
 
@@ -36,3 +38,9 @@ pub returns-clause-items : goal.returns-clause-items
 returns-clause-items g c = then_sends c.args.space c.pack.result c.args.self.now.sender c.transmit.new.sender
     c.pack.new.self.sender c.args.self.now.waiting.items c.reserve.new.self.items c.pack.new.self.waiting.items
     c.in-Ok-Transmitted.ensures.items c.in-Ok-reserve.ensures.items c.pack.ensures.items
+
+pub returns-clause-filled : goal.returns-clause-filled
+returns-clause-filled g c =
+    let transmits = rw c.in-Ok-Transmitted.field-0-is at c.in-Ok-Transmitted.ensures in
+    fills_before c.args.space c.pack.result _ c.args.self.now.sender c.transmit.new.sender c.args.self.now.waiting.items
+    c.reserve.new.self.items transmits.goes transmits.spaces c.in-Ok-reserve.ensures.items c.pack.ensures.filled

@@ -13,7 +13,7 @@ returns-in_default-clause-keeps g c = step_keeps _ _ _ _ _ _ _ _ _ _ _ _
     (idle_step _ _ _ _ _ _ refl tt tt
     (λ log listed. beyond c.args.self.now.wire.items log c.args.at c.args.now
     (rw (← c.deref.ensures.value) c.in_default.ensures.lookup.3) listed))
-    tt (same_queue (Arrive c.args.at c.args.now) (Ok Nothing) (λ log end. record {
+    tt tt tt tt (same_queue (Arrive c.args.at c.args.now) (Ok Nothing) (λ log end. record {
       handed_same = λ measure there. refl;
       sent_same = λ measure there. refl;
     }) (λ log. tt) _ _)
@@ -24,7 +24,7 @@ returns-in-Ok-clause-keeps g c = step_keeps _ _ _ _ _ _ _ _ _ _ _ _
     (arrives_at c.args.at c.args.now c.in-Some.packet.now c.args.self.now.wire.items (rw (← c.deref.ensures.value)
     (ltb-true c.args.at (length c.deref.result.now) (sym c.in-Some.ensures.lookup.0))) (rw (← c.deref.ensures.value)
     c.in-Some.ensures.lookup.1) c.other-to.result c.in-Ok.fate _ _ _ _ c.other-to.ensures c.in-Ok.ensures.goes)
-    tt (still_queue c.other-to.result (Arrive c.args.at c.args.now) (Ok (Arrived c.other-to.result
+    tt tt tt tt (still_queue c.other-to.result (Arrive c.args.at c.args.now) (Ok (Arrived c.other-to.result
     c.in-Some.packet.now.space c.in-Some.packet.now.number c.in-Some.packet.now.size c.in-Ok.fate)) (λ log end. record {
       handed_same = λ measure there. refl;
       sent_same = λ
@@ -38,7 +38,7 @@ pub returns-in-Err-clause-keeps : goal.returns-in-Err-clause-keeps
 returns-in-Err-clause-keeps g c = step_keeps _ _ _ _ _ _ _ _ _ _ _ _
     (held_turn c.other-to.result _ _ _ _ _ _ _ _ refl tt tt
     (λ log listed. tt) c.in-Err.ensures.goes)
-    tt (still_queue c.other-to.result (Arrive c.args.at c.args.now) (Err c.in-Err.refused) (λ log end. record {
+    tt tt tt tt (still_queue c.other-to.result (Arrive c.args.at c.args.now) (Err c.in-Err.refused) (λ log end. record {
       handed_same = λ measure there. refl;
       sent_same = λ measure there. refl;
     }) (λ log. tt) _ _ _ _

@@ -10,6 +10,7 @@ returns-clause-keeps g c = step_keeps _ _ _ _ _ _ _ _ _ _ _ _
     (local_step_at c.args.end c.args.step c.local_at.result _ _ _ _ _ c.local_at.ensures.goes c.local_at.ensures.finds
     c.local_at.ensures.answer)
     (local_known c.args.end c.args.step c.local_at.result c.local_at.ensures.answer)
+    tt tt c.local_at.ensures.asks
     (local_queue c.args.end c.args.step c.local_at.result (local_answer c.args.end c.args.step c.local_at.result
     c.local_at.ensures.answer) _ _ _ _
     c.local_at.ensures.waits)

@@ -14,5 +14,7 @@ pub returns-clause-timer_set : goal.returns-clause-timer_set
 returns-clause-timer_set g c =
     let client = c.in_ok-client.ensures.begins.does in
     let server = c.in_ok-server.ensures.begins.does in
-    rw (c.new-3.ensures.sender, c.new-4.ensures.sender)
-    ((client.running, ap known_of client.variables), (server.running, ap known_of server.variables))
+    rw (c.new-3.ensures.sender, c.new-4.ensures.sender) (
+      (client.running, ap known_of client.variables, client.timer),
+      (server.running, ap known_of server.variables, server.timer),
+    )

@@ -5,9 +5,10 @@ use Rattle.recovery_pair.specs.declared.steps.PairAnswer.TheVariants.{Failed, He
 use Rattle.recovery_pair.specs.declared.steps.PairStep.TheVariants.{Send}
 use Rattle.recovery_pair.specs.declared.endpoint.Outgoing.TheVariants as outgoing
 use Rattle.recovery_pair.specs.Logs.{ack_of}
+use Rattle.recovery_pair.proofs.FilledLaws.{fills_nothing}
 use Rattle.recovery_pair.proofs.DeadlockLaws.{held_at}
 use Rattle.recovery_pair.proofs.ItemTies.{failed_items, idle_items, nothing_items, same_items, sent_items}
-use Rattle.recovery_pair.proofs.PermitLaws.{permits_at, permits_none}
+use Rattle.recovery_pair.proofs.PermitLaws.{due_at, permits_at, permits_none}
 use Rattle.recovery_pair.proofs.QueueLaws.{nothing_queue, same_queue, sent_queue, step_keeps, still_queue}
 use Rattle.recovery_pair.proofs.StepTies.{held_turn, idle_step, send_turn}
 use Rattle.recovery_pair.proofs.TimedLaws.{timers_still}
@@ -19,7 +20,10 @@ returns-in-Ok-Sent-clause-keeps g c = rw c.sent_ack-ack.ensures (step_keeps _ _ 
     _ _ _ _ _ _
     (rw c.in-Ok.ensures.items at c.push_reserved.ensures.items)
     (rw c.in-Ok-Sent.field-0-is at c.in-Ok-Sent.ensures.goes))
-    tt (sent_queue c.args.end c.args.space c.args.now c.args.size c.in-Ok-Sent.packet.number c.in-Ok-Sent.items
+    tt (rw c.in-Ok-Sent.field-0-is at c.in-Ok-Sent.ensures.filled)
+    (due_at c.args.space c.args.now c.args.size c.in-Ok-Sent.packet c.in-Ok-Sent.items c.in-Ok-Sent.window c.args.end
+    _ _ (rw c.in-Ok-Sent.field-0-is at c.in-Ok-Sent.ensures.permits)) tt
+    (sent_queue c.args.end c.args.space c.args.now c.args.size c.in-Ok-Sent.packet.number c.in-Ok-Sent.items
     c.in-Ok-Sent.packet.eliciting c.in-Ok-Sent.window (ack_of c.in-Ok-Sent.packet) _ _ _ _
     (rw c.in-Ok-Sent.field-0-is at c.in-Ok-Sent.ensures.waits))
     (sent_items c.args.end c.args.space c.args.now c.args.size c.in-Ok-Sent.packet.number c.in-Ok-Sent.items
@@ -30,7 +34,7 @@ pub returns-in-Ok-Nothing-clause-keeps : goal.returns-in-Ok-Nothing-clause-keeps
 returns-in-Ok-Nothing-clause-keeps g c = step_keeps _ _ _ _ _ _ _ _ _ _ _ _
     (held_turn c.args.end _ _ _ _ _ _ _ _
     c.in-Ok.ensures.items tt tt (λ log listed. tt) (rw c.in-Ok-Nothing.field-0-is at c.in-Ok-Nothing.ensures.goes))
-    tt (nothing_queue c.args.end c.args.space c.args.now c.args.size _ _ _ _
+    tt (fills_nothing c.args.end _ _) tt tt (nothing_queue c.args.end c.args.space c.args.now c.args.size _ _ _ _
     (rw c.in-Ok-Nothing.field-0-is at c.in-Ok-Nothing.ensures.waits))
     (nothing_items c.args.end c.args.space c.args.now c.args.size _ _ _ _
     (rw c.in-Ok-Nothing.field-0-is at c.in-Ok-Nothing.ensures.permits)
@@ -41,7 +45,8 @@ pub returns-in-Ok-Held-clause-keeps : goal.returns-in-Ok-Held-clause-keeps
 returns-in-Ok-Held-clause-keeps g c = step_keeps _ _ _ _ _ _ _ _ _ _ _ _
     (held_turn c.args.end _ _ _ _ _ _ _ _
     c.in-Ok.ensures.items tt tt (λ log listed. tt) (rw c.in-Ok-Held.field-0-is at c.in-Ok-Held.ensures.goes))
-    tt (still_queue c.args.end (Send c.args.end c.args.space c.args.now c.args.size) (Ok (Held c.in-Ok-Held.held)) (λ
+    tt (fills_nothing c.args.end _ _) tt tt
+    (still_queue c.args.end (Send c.args.end c.args.space c.args.now c.args.size) (Ok (Held c.in-Ok-Held.held)) (λ
     log end. record {
       handed_same = λ measure there. refl;
       sent_same = λ measure
@@ -55,7 +60,8 @@ pub returns-in-Ok-Failed-clause-keeps : goal.returns-in-Ok-Failed-clause-keeps
 returns-in-Ok-Failed-clause-keeps g c = step_keeps _ _ _ _ _ _ _ _ _ _ _ _
     (held_turn c.args.end _ _ _ _ _ _ _ _
     c.in-Ok.ensures.items tt tt (λ log listed. tt) (rw c.in-Ok-Failed.field-0-is at c.in-Ok-Failed.ensures.goes))
-    tt (still_queue c.args.end (Send c.args.end c.args.space c.args.now c.args.size) (Ok (Failed
+    tt (fills_nothing c.args.end _ _) tt tt
+    (still_queue c.args.end (Send c.args.end c.args.space c.args.now c.args.size) (Ok (Failed
     c.in-Ok-Failed.refused)) (λ log end. record {
       handed_same = λ measure there. refl;
       sent_same = λ measure
@@ -69,7 +75,8 @@ pub returns-in-Err-send_from-clause-keeps : goal.returns-in-Err-send_from-clause
 returns-in-Err-send_from-clause-keeps g c = step_keeps _ _ _ _ _ _ _ _ _ _ _ _
     (held_turn c.args.end _ _ _ _ _ _ _ _
     c.in-Ok.ensures.items tt tt (λ log listed. tt) c.in-Err-send_from.ensures.goes)
-    tt (still_queue c.args.end (Send c.args.end c.args.space c.args.now c.args.size) (Err c.in-Err-send_from.refused) (λ
+    tt (fills_nothing c.args.end _ _) tt tt
+    (still_queue c.args.end (Send c.args.end c.args.space c.args.now c.args.size) (Err c.in-Err-send_from.refused) (λ
     log end. record {
       handed_same = λ measure there. refl;
       sent_same = λ measure
@@ -83,7 +90,8 @@ pub returns-in-Err-clause-keeps : goal.returns-in-Err-clause-keeps
 returns-in-Err-clause-keeps g c = step_keeps _ _ _ _ _ _ _ _ _ _ _ _
     (idle_step _ _ _ _ _ _ c.in-Err.ensures.items tt tt
     (λ log listed. tt))
-    tt (same_queue (Send c.args.end c.args.space c.args.now c.args.size) (Err (Event NoMemory)) (λ log end. record {
+    tt (fills_nothing c.args.end _ _) tt tt
+    (same_queue (Send c.args.end c.args.space c.args.now c.args.size) (Err (Event NoMemory)) (λ log end. record {
       handed_same = λ measure there. refl;
       sent_same = λ measure there. refl;
     }) (λ log. tt) _ _)
@@ -143,3 +151,21 @@ returns-in-Ok-Held-clause-held g c = held_at _ _ _ _ _ c.args.end c.args.space c
     (λ Idle in_flight checked said agrees. agrees)
     (rw c.in-Ok-Held.field-0-is at c.in-Ok-Held.ensures.permits))
     (timers_still c.args.end _ _ _ _ c.in-Ok-Held.ensures.timer)
+
+pub returns-in-Ok-Sent-clause-filled : goal.returns-in-Ok-Sent-clause-filled
+returns-in-Ok-Sent-clause-filled g c = rw c.in-Ok-Sent.field-0-is at c.in-Ok-Sent.ensures.filled
+
+pub returns-in-Ok-Nothing-clause-filled : goal.returns-in-Ok-Nothing-clause-filled
+returns-in-Ok-Nothing-clause-filled g c = fills_nothing c.args.end _ _
+
+pub returns-in-Ok-Held-clause-filled : goal.returns-in-Ok-Held-clause-filled
+returns-in-Ok-Held-clause-filled g c = fills_nothing c.args.end _ _
+
+pub returns-in-Ok-Failed-clause-filled : goal.returns-in-Ok-Failed-clause-filled
+returns-in-Ok-Failed-clause-filled g c = fills_nothing c.args.end _ _
+
+pub returns-in-Err-send_from-clause-filled : goal.returns-in-Err-send_from-clause-filled
+returns-in-Err-send_from-clause-filled g c = fills_nothing c.args.end _ _
+
+pub returns-in-Err-clause-filled : goal.returns-in-Err-clause-filled
+returns-in-Err-clause-filled g c = fills_nothing c.args.end _ _

@@ -8,6 +8,8 @@ returns-in-Send g c = rw c.in-Send.is (record {
   permits = c.send.ensures.permits;
   timer_set = c.send.ensures.timer_set;
   unstuck = never_stuck _ _ _ _ _ _ _ _ _ _ _ _ c.send.ensures.keeps c.send.ensures.timer_set c.send.ensures.held;
+  filled = c.send.ensures.filled;
+  expires = tt;
   least = (λ never. absurd (true≢false (sym never)), λ never. absurd (true≢false (sym never)));
 })
 
@@ -18,6 +20,8 @@ returns-in-Arrive g c = rw c.in-Arrive.is (record {
   timer_set = c.arrive.ensures.timer_set;
   unstuck = never_stuck _ _ _ _ _ _ _ _ _ _ _ _ c.arrive.ensures.keeps c.arrive.ensures.timer_set
       (λ validated log tied have. tt);
+  filled = tt;
+  expires = tt;
   least = c.arrive.ensures.least;
 })
 
@@ -28,5 +32,7 @@ returns-in-Local g c = rw c.in-Local.is (record {
   timer_set = c.local.ensures.timer_set;
   unstuck = never_stuck _ _ _ _ _ _ _ _ _ _ _ _ c.local.ensures.keeps c.local.ensures.timer_set
       (λ validated log tied have. tt);
+  filled = tt;
+  expires = c.local.ensures.expires;
   least = c.local.ensures.least;
 })
