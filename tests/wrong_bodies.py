@@ -1,7 +1,7 @@
 #!/usr/bin/env python3
 """Tries the wrong bodies crates/NAME/wrong/*.edit: the prover must refuse each, by a goal of the function that it turns. Those of a crate are tried in
-one check of the functions that they turn. Each other function keeps its contract alone there, since a proof rests on no other function's body; two
-of one function take two checks.
+one check of the functions that they turn. Each other function keeps its contract alone there, since a proof rests on no other function's body. If two
+turn one function, the second turns a copy of it, with its contract and its answers.
 
     tests/wrong_bodies.py                         all
     tests/wrong_bodies.py recovery_ids            a crate's
@@ -59,15 +59,19 @@ class Edit:
             (crate / file).write_text(text.replace(old, new))
 
 
-def rounds(edits):
-    """The edits by checks, in none of which two turn one function."""
-    found = []
-    for edit in edits:
+def rounds(crate, edits):
+    """The edits by checks, each with the function that it turns: one that another turns in the same check is copied under another name. A method of a
+    trait cannot be: that takes another check."""
+    found = [{}]
+    for number, edit in enumerate(edits):
+        if edit.function in found[0] and is_copied(crate, edit):
+            found[0][f"{edit.function}_again_{number}"] = edit
+            continue
         room = next((it for it in found if edit.function not in it), None)
         if room is None:
             found.append(room := {})
         room[edit.function] = edit
-    return found
+    return [it for it in found if it]
 
 
 def texts(src):
@@ -100,6 +104,46 @@ def body(lines, start):
     return slice(opens + 1, lines.index(f"{indent}}}", opens)) if lines[opens].endswith("{") else None
 
 
+def place(crate, file, function):
+    """The lines of a file, and which of them are a function's, its comments and attributes among them; nothing if it is in a trait or on one line."""
+    lines = (crate / file).read_text().splitlines()
+    types = {found[1]: at for _, at, every in texts(crate / "src") for found in map(TYPE.match, every) if found}
+    at = next(at for it, at, _ in texts(crate / "src") if it == crate / file)
+    start = next((number for parts, number in functions(lines, at, types) if "::".join(parts) == function), None)
+    inside = start and body(lines, start)
+    if not inside:
+        return lines, None
+    first = start
+    while re.match(r" *(#\[|///)", lines[first - 1]):
+        first -= 1
+    return lines, slice(first, inside.stop + 1)
+
+
+def is_copied(crate, edit):
+    """Whether an edit can turn a copy of its function: if all that it changes is in it."""
+    lines, there = place(crate, edit.pairs[0][0], edit.function)
+    text = there and "\n".join(lines[there])
+    return bool(there) and all(file == edit.pairs[0][0] and text.count(old) == 1 for file, old, _ in edit.pairs)
+
+
+def copy_function(crate, to, edit, name):
+    """Puts behind a function a copy of it, turned by the edit and with another name, and a copy of its answers."""
+    *owner, own = edit.function.split("::")
+    new = name.split("::")[-1]
+    file = edit.pairs[0][0]
+    lines, there = place(crate, file, edit.function)
+    text = re.sub(rf"\bfn {own}\b", f"fn {new}", "\n".join(lines[there]), count=1)
+    for _, old, turned in edit.pairs:
+        text = text.replace(old, turned)
+    lines, there = place(to, file, edit.function)
+    (to / file).write_text("\n".join([*lines[:there.stop], "", *text.splitlines(), *lines[there.stop:], ""]))
+    answers = to / "proofs" / pathlib.Path(*owner)
+    if (answers / own).is_dir():
+        shutil.copytree(answers / own, answers / new)
+        for it in (answers / new).rglob("*.antt"):
+            it.write_text(it.read_text().replace(f".proofs.{'.'.join([*owner, own])}.", f".proofs.{'.'.join([*owner, new])}."))
+
+
 def set_aside(crate, folder, kept):
     """Leaves all functions but those that are kept no more than their contracts: a body that never ends, and for its proof a name that is nowhere."""
     files = [*texts(folder / "src")]
@@ -130,8 +174,11 @@ def checked(crate, edits):
         for room in "src", "specs", "proofs":
             if (ROOT / "crates" / crate / room).is_dir():
                 shutil.copytree(ROOT / "crates" / crate / room, pathlib.Path(folder, room))
-        for it in edits.values():
-            it.turn(pathlib.Path(folder))
+        for name, it in sorted(edits.items(), key=lambda of: of[0] != of[1].function):  # copies last: of each text there is one
+            if name == it.function:
+                it.turn(pathlib.Path(folder))
+            else:
+                copy_function(ROOT / "crates" / crate, pathlib.Path(folder), it, name)
         set_aside(crate, pathlib.Path(folder), edits)
         only = [word for it in edits for word in ("--only", f"{crate}::{it}")]
         words = [tree.kit() / "bin" / "rattle", "check", "--short-goals", *tree.words_of(crate), *only]
@@ -182,7 +229,7 @@ def try_all(crates, prefix, says_goals, tests):
     work = []
     for crate in crates:
         edits = map(Edit, sorted((ROOT / "crates" / crate / "wrong").glob(f"{prefix}*.edit")))
-        work += [(crate, it) for it in rounds(edits)]
+        work += [(crate, it) for it in rounds(ROOT / "crates" / crate, edits)]
     work.sort(key=lambda it: -len(it[1]))
     missing = {it for crate, _ in work for it in tree.below(crate) if not tree.is_newer(tree.rlib(it), it)}
     if missing:
