@@ -25,7 +25,7 @@ module _ {P M S : Type 0} (words : QueueSemantics P S) (streams : S) where
   is_filled entry = not (words.is_empty entry.1.retransmits streams)
 
   -- the packet that is found exists, with contents
-  first_full : (packets : Packets P M) (n : ℕ) → ((m : ℕ) → times m packets ≤ 1)
+  pub first_full : (packets : Packets P M) (n : ℕ) → ((m : ℕ) → times m packets ≤ 1)
       → least_number (filter is_filled packets) ≡ Some n
       → (packet : Packet P M) × (packet_at packets n ≡ Some packet)
       × (words.is_empty packet.retransmits streams ≡ false)

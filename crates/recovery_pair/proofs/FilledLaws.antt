@@ -2,26 +2,24 @@
 -- found by its number, since each number is tracked at most once.
 use Rattle.std.proofs.Common.{◌≡◌, ◌≤◌, ◌⊎◌, inl, inr, ℕ, ◌==◌, not, Bool, true, false, true≢false, cond, filter, List, [], ◌∷◌, ◌++◌, length, Option, None, Some, Result, Ok, Err, refl, sym, ap, subst, ◌∙◌, arith}
 use Rattle.std.proofs.lemmas.Bool.Decides.{nat_tests}
-use Rattle.std.proofs.lemmas.List.Sums.{sum_by-cons}
 use Rattle.std.proofs.lemmas.Option.{none-some}
 use Rattle.std.specs.Option.{option_and_then}
 use Rattle.std.specs.Prelude.{IfOk, OnErr}
 use Rattle.recovery_base.specs.declared.below.SpaceId.{SpaceId}
 use Rattle.recovery_base.specs.Spaces.{same_space}
 use Rattle.recovery_queue.specs.Items.{item_words}
-use Rattle.recovery_spaces.specs.Departures.{one_if_same}
 use Rattle.recovery_spaces.specs.Packets.{Packet, Packets, least_number, packet_at}
 use Rattle.recovery_spaces.specs.Probes.{probe_found}
 use Rattle.recovery_spaces.specs.Queued.{joined_with}
 use Rattle.recovery_spaces.specs.Spaces.{Space, packets_of, space_of}
 use Rattle.recovery_spaces.specs.Tracked.{SentState}
-use Rattle.recovery_spaces.proofs.PacketLaws.{number_at}
 use Rattle.recovery_congestion.specs.Controllers.{ControllerSemantics}
 use Rattle.recovery_history.specs.History.{History, QueueModel, begins, queue_model}
 use Rattle.recovery_history.specs.RecoveryState.{RecoveryState}
 use Rattle.recovery_history.specs.RepliesAfter.{RepliesAfter}
 use Rattle.recovery_history.proofs.Runs.{kept_after}
-use Rattle.recovery_history.proofs.TrackedLaws.{AllTracked, at_itself, keeps_tracked, none_tracked, stands, times}
+use Rattle.recovery_history.proofs.SendableLaws.{first_full}
+use Rattle.recovery_history.proofs.TrackedLaws.{AllTracked, keeps_tracked, none_tracked, times}
 use Rattle.recovery_losses.specs.declared.due.Due.{Due}
 use Rattle.recovery_losses.specs.declared.variables.Variables.{Variables}
 use Rattle.recovery_sender.specs.Calls.{ProbeResult, transmit_steps}
@@ -71,37 +69,6 @@ module _ {M : Type 0} where
       go true empty none rest = (no_items entry.1.retransmits empty, rest none)
       go false some none rest = absurd (none-some entry.0 (sym none))
 
-  first_full : (packets : Packets (List ℕ) M) (n : ℕ) → ((m : ℕ) → times m packets ≤ 1)
-      → least_number (filter is_filled packets) ≡ Some n
-      → (packet : Packet (List ℕ) M) × (packet_at packets n ≡ Some packet) × (packet.retransmits ≡ [] → ⊥)
-  first_full [] n once is = absurd (cc)
-  first_full (entry ∷ packets) n once is = go (length entry.1.retransmits == 0) refl is (first_full packets n (λ m. (
-      let sum = sum_by-cons (λ (e : ℕ × Packet (List ℕ) M). one_if_same e.0 m) entry packets in
-      omega (arith, once m, sum))))
-    where
-      go : (b : Bool) → (length entry.1.retransmits == 0) ≡ b
-          → least_number (cond (not b) (entry ∷ filter is_filled packets) (filter is_filled packets)) ≡ Some n
-          → (least_number (filter is_filled packets) ≡ Some n → (packet : Packet (List ℕ) M)
-          × (packet_at packets n ≡ Some packet) × (packet.retransmits ≡ [] → ⊥))
-          → (packet : Packet (List ℕ) M) × (packet_at (entry ∷ packets) n ≡ Some packet)
-          × (packet.retransmits ≡ [] → ⊥)
-      go false filled first later =
-          (entry.1, grind (arith, first, at_itself n), some_items entry.1.retransmits filled)
-      go true empty first later =
-          let rest = later first in (
-            rest.0,
-            grind (
-              arith,
-              nat_tests,
-              rest.1,
-              number_at n entry.0,
-              stands n packets,
-              once n,
-              sum_by-cons (λ (e : ℕ × Packet (List ℕ) M). one_if_same e.0 n) entry packets,
-            ),
-            rest.2,
-          )
-
   -- if what it takes has no items, there are none
   finds_none : {S : Type 0} (streams : S) (pending : List ℕ) (packets : Packets (List ℕ) M)
       → ((m : ℕ) → times m packets ≤ 1) → joined_with {S = S} item_words pending (option_and_then (packet_at packets)
@@ -116,8 +83,9 @@ module _ {M : Type 0} where
       go false some found is none = absurd (some_items pending some none)
       go true empty None is none = (none, none_full packets is)
       go true empty (Some n) is none =
-          let first = first_full packets n once is in
-          absurd (first.2 (none_joined pending first.0.retransmits (rw first.1 at none)))
+          let first = first_full {S = S} item_words streams packets n once is in
+          let empty = none_joined pending first.0.retransmits (rw first.1 at none) in
+          absurd (some_items first.0.retransmits first.2 empty)
 
 -- ---- the call
 
