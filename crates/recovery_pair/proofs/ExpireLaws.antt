@@ -28,7 +28,7 @@ use Rattle.recovery_sender.specs.Spaces.{space_in}
 use Rattle.recovery_sender.specs.Timeouts.{IsEarly, TimeoutResult}
 use Rattle.recovery_sender.specs.Timer.{behind, deadlock_space, due_of, has_eliciting, loss_due, may_deadlock, probe_due, probe_in, pto_of, soonest, waits}
 use Rattle.recovery_pair.specs.AddressKnown.{Known}
-use Rattle.recovery_pair.specs.Expires.{ActsInTime, AsksIn, IsDue, IsLossDue, expired}
+use Rattle.recovery_pair.specs.Expires.{ActsInTime, AsksIn, ExpiresBy, IsDue, IsLossDue, expired}
 use Rattle.recovery_pair.specs.Timed.{IsTimedAs}
 
 -- ---- the earliest of several
@@ -167,7 +167,7 @@ module _ {F Q R C K S M P : Type 0} {f : _} {c : _} {q : _} {m : _} {r : _} (now
   loss_since space is =
       let since = due_since (Losses space) is in (since.0, some_and now _ since.1.0 since.1.1 since.1.2)
 
-  pub timeout_acts : (result : Result Timeout SenderError) → TimeoutResult now old new result
+  timeout_acts : (result : Result Timeout SenderError) → TimeoutResult now old new result
       → ActsInTime now (expired result) old new
   timeout_acts (Ok Nothing) is = subst (IsEarly now) (sym timed.2) (early_of now _ is.0)
   timeout_acts (Ok (Lost space losses)) is = loss_since space is.0
@@ -179,3 +179,10 @@ module _ {F Q R C K S M P : Type 0} {f : _} {c : _} {q : _} {m : _} {r : _} (now
       (since.0, probed now old new space count does.variables, inr (ends.1, since.1.1))
   timeout_acts (Err refusal) is =
       let since = loss_since is.0.0 is.0.1 in (since.0, is.1, is.0.0, since.1)
+
+module _ {F Q R C K S M P : Type 0} {f : _} {c : _} {q : _} {m : _} {r : _} (now : ℕ)
+    (old new : Sender F Q R C K S M P f c q m r) where
+  pub timeout_expires : (result : Result Timeout SenderError) → TimeoutResult now old new result
+      → ExpiresBy now (expired result) old new
+  timeout_expires (Ok timeout) is = (is, λ known timed. timeout_acts now old new known timed (Ok timeout) is)
+  timeout_expires (Err refusal) is = (is, λ known timed. timeout_acts now old new known timed (Err refusal) is)

@@ -7,7 +7,7 @@ use Rattle.recovery_events.specs.declared.event.Refusal.TheVariants.{NoMemory}
 use Rattle.recovery_losses.specs.Variables.{is_probe_due}
 use Rattle.recovery_sender.specs.Promises.Liveness.{IsAckOwed, loss_time_in}
 use Rattle.recovery_sender.specs.Senders.{state_in}
-use Rattle.recovery_sender.specs.Timeouts.{IsEarly}
+use Rattle.recovery_sender.specs.Timeouts.{IsEarly, TimeoutResult}
 use Rattle.recovery_sender.specs.Timer.{may_deadlock}
 use Rattle.recovery_sender.specs.declared.sender.Sender.{Sender}
 use Rattle.recovery_sender.specs.declared.sender.SenderError.{SenderError}
@@ -38,8 +38,8 @@ module _ {F Q R C K S M P : Type 0} {f : _} {c : _} {q : _} {m : _} {r : _} wher
   abbrev pub IsLossDue : ℕ → SpaceId → Sender F Q R C K S M P f c q m r → Type 0
   IsLossDue now space sender = IsSomeAnd (loss_time_in (state_in sender) space) (λ time. time ≤ now)
 
-  -- Before its time nothing happens. At its time a space with a lost packet gets a loss detection pass, which alone may
-  -- fail. Or probes are due: two in a space with an ack-eliciting packet in flight, or one against a deadlock.
+  -- Nothing is due before the time. At it a space with a packet lost by its age gets a loss detection pass, which alone
+  -- may fail. Or probes are due: two in a space with an ack-eliciting packet in flight, or one against a deadlock.
   abbrev pub ActsInTime : ℕ → Result PairAnswer SenderError → Sender F Q R C K S M P f c q m r
       → Sender F Q R C K S M P f c q m r → Type 0
   ActsInTime now (Ok (Expired Nothing)) old new = IsEarly now (moment LossDetection (state_in old).timers)
@@ -52,6 +52,18 @@ module _ {F Q R C K S M P : Type 0} {f : _} {c : _} {q : _} {m : _} {r : _} wher
   ActsInTime now (Err refusal) old new =
       IsDue now old × (refusal ≡ Event NoMemory) × (space : SpaceId) × IsLossDue now space old
 
+  -- the sender handles its timer (`TimeoutResult`), and at its time if that follows the events
+  abbrev pub TimesOut : ℕ → Result PairAnswer SenderError → Sender F Q R C K S M P f c q m r
+      → Sender F Q R C K S M P f c q m r → Type 0
+  TimesOut now (Ok (Expired timeout)) old new = TimeoutResult now old new (Ok timeout)
+  TimesOut now (Ok answer) old new = ⊥
+  TimesOut now (Err refusal) old new = TimeoutResult now old new (Err refusal)
+
+  abbrev pub ExpiresBy : ℕ → Result PairAnswer SenderError → Sender F Q R C K S M P f c q m r
+      → Sender F Q R C K S M P f c q m r → Type 0
+  ExpiresBy now answer old new =
+      TimesOut now answer old new × ((known : Known) → IsTimedAs known old → ActsInTime now answer old new)
+
   -- probes are due if they are asked for
   abbrev pub AsksIn : Result PairAnswer SenderError → Sender F Q R C K S M P f c q m r → Type 0
   AsksIn (Ok (Expired (Probe space count))) new = is_probe_due new.variables space ≡ true
@@ -61,10 +73,10 @@ module _ {F Q R C K S M P : Type 0} {f : _} {c : _} {q : _} {m : _} {r : _} wher
   AsksAt (Expire now) answer new = AsksIn answer new
   AsksAt step answer new = Unit {0}
 
-  -- a step of an endpoint whose timer follows the events
+  -- a step of an endpoint
   abbrev pub ExpiresInTime : LocalStep → Result PairAnswer SenderError → Sender F Q R C K S M P f c q m r
       → Sender F Q R C K S M P f c q m r → Type 0
-  ExpiresInTime (Expire now) answer old new = (known : Known) → IsTimedAs known old → ActsInTime now answer old new
+  ExpiresInTime (Expire now) answer old new = ExpiresBy now answer old new
   ExpiresInTime step answer old new = Unit {0}
 
   abbrev pub ExpiresAtEnd : PairStep → Result PairAnswer SenderError → Sender F Q R C K S M P f c q m r

@@ -1,5 +1,5 @@
--- A probe has items, if there are any to send (RFC 9002, 6.2.4): those of the retransmission queue, those of a packet
--- in flight, or those that wait longest.
+-- A probe has items if one of these has (RFC 9002, 6.2.4): the retransmission queue, a packet in flight whose items no
+-- probe took, or what waits longest.
 use Rattle.std.specs.Prelude.{◌≡◌, ℕ, Bool, true, List, [], ◌∷◌, get_or, Option, None, Some, Result, Ok, if◌then◌else◌}
 use Rattle.recovery_base.specs.declared.below.SpaceId.{SpaceId}
 use Rattle.recovery_base.specs.Spaces.{same_space}

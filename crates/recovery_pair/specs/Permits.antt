@@ -79,7 +79,7 @@ module _ {F Q R C K S M P : Type 0} {f : _} {c : _} {q : _} {m : _} {r : _} wher
   HoldsAt Client Holds client server = Holds client
   HoldsAt Server Holds client server = Holds server
 
-  -- a datagram is sent exactly if the sender of its endpoint permits it
+  -- a datagram is sent only if the sender of its endpoint permits it
   abbrev pub SendsAsPermitted : PairStep → Result PairAnswer SenderError → Sender F Q R C K S M P f c q m r
       → Sender F Q R C K S M P f c q m r → Type 0
   SendsAsPermitted (Send end space now size) answer client server =

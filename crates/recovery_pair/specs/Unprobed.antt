@@ -1,5 +1,5 @@
--- A lost item is sent again (RFC 9002, 6.2.4). If a packet with items is in flight in a space, and no probe had any
--- there, then the packet of the space that is sent next after a probe timeout has items.
+-- The first probe has items (RFC 9002, 6.2.4). If a packet with items is in flight in a space, and no probe had any
+-- there, then a packet that is sent there in the step after a probe timeout has items.
 use Rattle.std.specs.Prelude.{◌≡◌, ◌≢◌, ℕ, ◌<◌, Option, Bool, false, [], ◌∷◌, length, Ok}
 use Rattle.std.specs.Global.{Vec}
 use Rattle.recovery_base.specs.declared.below.SpaceId.{SpaceId}

@@ -1,8 +1,8 @@
 //! The calls of a sender that an end makes, and how each continues the sender's past.
 ghost use Rattle.std.specs.Prelude.{◌≡◌, ◌≢◌, [], ◌∷◌, true, IfOk, MatchResult, Some};
-ghost use Rattle.recovery_pair.specs.AddressKnown.{Known, known_by_ack, with_confirmation, with_keys};
+ghost use Rattle.recovery_pair.specs.AddressKnown.{known_by_ack, with_confirmation, with_keys};
 ghost use Rattle.recovery_pair.specs.Carried.{Carries, CarriesNone, losing, lost_by_ack, lost_by_timeout, sending_with, taking};
-ghost use Rattle.recovery_pair.specs.Expires.{ActsInTime, AsksIn, expired};
+ghost use Rattle.recovery_pair.specs.Expires.{AsksIn, ExpiresBy, expired};
 ghost use Rattle.recovery_pair.specs.Falls.{FindsWithCause};
 ghost use Rattle.recovery_pair.specs.Filled.{KeepsSpaces, RepeatsNone};
 ghost use Rattle.recovery_pair.specs.Flights.{counted_if};
@@ -14,7 +14,7 @@ ghost use Rattle.recovery_pair.specs.Pasts.{Continues, GoesOn, GoesOnQuietly, Ha
 ghost use Rattle.recovery_pair.specs.Promises.Framed.{HasFrame};
 ghost use Rattle.recovery_pair.specs.Permits.{FitsChecked, said_by, window_checked};
 ghost use Rattle.recovery_pair.specs.Promises.Repeats.{is_probe};
-ghost use Rattle.recovery_pair.specs.Timed.{IsTimedAs, KeepsTimer, KeepsTimerAs};
+ghost use Rattle.recovery_pair.specs.Timed.{KeepsTimer, KeepsTimerAs};
 ghost use Rattle.recovery_pair.specs.Turns.{FitsIfPermitted, TransmitTurn, TriesTurn, timeout_turn};
 
 use crate::steps::{AckOutcome, WirePacket};
@@ -325,8 +325,7 @@ where
     ensures goes { Continues (GoesOn (timeout_turn result)) sender.old sender.new }
     ensures timer { KeepsTimer sender.old sender.new }
     ensures items { Carries (losing (lost_by_timeout result)) sender.old sender.new }
-    ensures acts { (known : Known) → IsTimedAs known sender.old
-        → ActsInTime now (expired result) sender.old sender.new }
+    ensures acts { ExpiresBy now (expired result) sender.old sender.new }
     ensures asks { AsksIn (expired result) sender.new }
     ensures least { IsLeastIf (persists_by_timeout result) sender.new }
     ensures finds { FindsWithCause (persists_by_timeout result) (lost_by_timeout result) now

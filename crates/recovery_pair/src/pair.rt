@@ -216,11 +216,13 @@ where
             self.old.wire.items self.old.client.waiting.items self.old.server.waiting.items step
             result self.new.client.sender self.new.server.sender }
 
-        // The loss detection timer acts at its time, and not before (RFC 9002, 6.2 and A.9).
+        // The loss detection timer acts at its time, and not before, as `on_timeout` of the sender
+        // promises (RFC 9002, 6.2 and A.9).
         ensures expires { ExpiresAtEnd step result self.old.client.sender self.old.server.sender
             self.new.client.sender self.new.server.sender }
 
-        // A probe has items if there are any to send (RFC 9002, 6.2.4).
+        // A probe has items if the retransmission queue, a packet in flight whose items no probe
+        // took, or what waits longest has (RFC 9002, 6.2.4).
         ensures filled { FillsProbes step result
             (self.old.client.sender, self.old.client.waiting.items)
             (self.old.server.sender, self.old.server.waiting.items) }

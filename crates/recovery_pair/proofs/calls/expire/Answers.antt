@@ -1,4 +1,4 @@
-use Rattle.recovery_pair.proofs.ExpireLaws.{timeout_acts, timeout_asks}
+use Rattle.recovery_pair.proofs.ExpireLaws.{timeout_asks, timeout_expires}
 use Rattle.recovery_pair.proofs.QuietLaws.{timeout_ending}
 use Rattle.recovery_pair.proofs.TimedLaws.{timeout_timer}
 use Rattle.recovery_pair.proofs.ItemLaws.{timeout_carries}
@@ -27,8 +27,8 @@ returns-clause-finds g c = timeout_finds _ _ _ _
     c.on_timeout.ensures.comes
 
 pub returns-clause-acts : goal.returns-clause-acts
-returns-clause-acts g c = λ known timed. timeout_acts c.args.now c.args.sender.now c.on_timeout.new.self known timed
-    c.on_timeout.result c.on_timeout.ensures.comes
+returns-clause-acts g c = timeout_expires c.args.now c.args.sender.now c.on_timeout.new.self c.on_timeout.result
+    c.on_timeout.ensures.comes
 
 pub returns-clause-asks : goal.returns-clause-asks
 returns-clause-asks g c = timeout_asks c.args.now c.args.sender.now c.on_timeout.new.self c.on_timeout.result
