@@ -1,7 +1,7 @@
 #!/usr/bin/env python3
-"""Tries the wrong bodies crates/NAME/wrong/*.edit: the prover must refuse each, by a goal of the function that it turns. Those of a crate are tried in
-one check of the functions that they turn. Each other function keeps its contract alone there, since a proof rests on no other function's body. If two
-turn one function, the second turns a copy of it, with its contract and its answers.
+"""Tries the wrong bodies crates/NAME/wrong/*.edit: the prover must refuse each, by a goal of the function that it turns. Up to 16 of a crate are
+tried in one check of the functions that they turn. Each other function keeps its contract alone there, since a proof rests on no other function's body.
+If two turn one function, the second turns a copy of it, with its contract and its answers.
 
     tests/wrong_bodies.py                         all
     tests/wrong_bodies.py recovery_ids            a crate's
@@ -23,6 +23,7 @@ import tree
 from tree import ROOT
 
 MEMORY_EACH = 3_000_000  # kB, of one check
+MOST_EACH = 16  # wrong bodies in one check: what is refused takes longest, and one check has one processor
 
 VERDICT = re.compile(r"fn (\S+): (proved|not proved|no proof|could not tell)(.*)")
 UNANSWERED = re.compile(r"`search` did not prove ((?:`[^`]+`(?:, | and |,? )?)+)")
@@ -71,7 +72,13 @@ def rounds(crate, edits):
         if room is None:
             found.append(room := {})
         room[edit.function] = edit
-    return [it for it in found if it]
+    return [dict(part) for it in found for part in dealt(list(it.items()))]
+
+
+def dealt(edits):
+    """Parts of at most so many, dealt in turn: those of one function, which take about as long, are not in one part."""
+    parts = -(-len(edits) // MOST_EACH)
+    return [edits[at::parts] for at in range(parts)]
 
 
 def texts(src):
