@@ -1,17 +1,14 @@
 -- The loss detection timer acts at its time. What is due has a cause: a packet that is lost by its age, an
 -- ack-eliciting packet in flight, or a possible deadlock.
-use Rattle.std.proofs.Common.{◌≡◌, ◌≤◌, ℕ, ◌||◌, nat_lt, true, false, Bool, Option, None, Some, option_map, Result, Ok, Err, inl, inr, refl, sym, ap, subst, ◌∙◌, arith}
+use Rattle.std.proofs.Common.{◌≡◌, ◌≤◌, ℕ, ◌||◌, true, false, Bool, Option, None, Some, option_map, Result, Ok, Err, inl, inr, refl, sym, ap, subst, ◌∙◌, arith}
 use Rattle.std.specs.Prelude.{IsSomeAnd, if◌then◌else◌, nat_le, not}
 use Rattle.std.proofs.lemmas.Bool.Decides.{nat_tests}
 use Rattle.std.proofs.lemmas.Option.{none-some, same_Some}
-use Rattle.std.specs.Option.{option_and_then, option_or}
+use Rattle.std.specs.Option.{option_and_then}
 use Rattle.recovery_base.specs.declared.below.SpaceId.{SpaceId}
-use Rattle.recovery_base.specs.declared.below.SpaceId.TheVariants.{Initial, Handshake, Data}
-use Rattle.recovery_base.specs.Spaces.{same_space}
 use Rattle.recovery_losses.specs.declared.due.Due.{Due}
 use Rattle.recovery_losses.specs.declared.due.Due.TheVariants.{AntiDeadlock, Losses, Probes}
 use Rattle.recovery_losses.specs.declared.variables.Variables.{Variables}
-use Rattle.recovery_losses.specs.Due.{sooner}
 use Rattle.recovery_losses.specs.Variables.{is_probe_due, timed_out}
 use Rattle.recovery_spaces.specs.Discarded.{is_discarded}
 use Rattle.recovery_spaces.specs.Spaces.{Space, packets_of}
@@ -26,38 +23,12 @@ use Rattle.recovery_sender.specs.Promises.Liveness.{IsAckOwed, loss_time_in}
 use Rattle.recovery_sender.specs.Senders.{state_in}
 use Rattle.recovery_sender.specs.Spaces.{space_in}
 use Rattle.recovery_sender.specs.Timeouts.{IsEarly, TimeoutResult}
-use Rattle.recovery_sender.specs.Timer.{behind, deadlock_space, due_of, has_eliciting, loss_due, may_deadlock, probe_due, probe_in, pto_of, soonest, waits}
+use Rattle.recovery_sender.specs.Timer.{behind, deadlock_space, due_of, has_eliciting, loss_due, may_deadlock, probe_due, probe_in, pto_of, waits}
+use Rattle.recovery_sender.proofs.DueLaws.{IfDue, or_has, soonest_has, unless_has}
 use Rattle.recovery_pair.specs.AddressKnown.{Known}
 use Rattle.recovery_pair.specs.Expires.{ActsInTime, AsksIn, ExpiresBy, IsDue, IsLossDue, expired}
 use Rattle.recovery_pair.specs.Timed.{IsTimedAs}
-
--- ---- the earliest of several
-
-module _ (Has : ℕ × Due → Type 0) where
-  abbrev IfDue : Option (ℕ × Due) → Type 0
-  IfDue None = Unit {0}
-  IfDue (Some due) = Has due
-
-  one_has : (test : Bool) (one other : ℕ × Due) → Has one → Has other
-      → IfDue (if test then Some other else Some one)
-  one_has true one other first second = second
-  one_has false one other first second = first
-
-  sooner_has : (one other : Option (ℕ × Due)) → IfDue one → IfDue other → IfDue (sooner one other)
-  sooner_has None other first second = second
-  sooner_has (Some one) None first second = first
-  sooner_has (Some one) (Some other) first second = one_has (nat_lt other.0 one.0) one other first second
-
-  soonest_has : (due : SpaceId → Option (ℕ × Due)) → ((space : SpaceId) → IfDue (due space)) → IfDue (soonest due)
-  soonest_has due all = sooner_has _ _ (sooner_has _ _ (all Initial) (all Handshake)) (all Data)
-
-  or_has : (one other : Option (ℕ × Due)) → IfDue one → IfDue other → IfDue (option_or one other)
-  or_has None other first second = second
-  or_has (Some one) other first second = first
-
-  unless_has : (test : Bool) (due : Option (ℕ × Due)) → IfDue due → IfDue (if test then None else due)
-  unless_has true due has = tt
-  unless_has false due has = has
+use Rattle.recovery_pair.proofs.FilledLaws.{here_itself}
 
 -- ---- what is due
 
@@ -136,10 +107,7 @@ module _ {F Q R C K S M P : Type 0} {f : _} {c : _} {q : _} {m : _} {r : _} (now
     (old new : Sender F Q R C K S M P f c q m r) where
   probed : (space : SpaceId) (count : ℕ) → new.variables ≡ timed_out space count now old.variables
       → is_probe_due new.variables space ≡ true
-  probed space count is = rw is (itself space)
-    where
-      itself : (there : SpaceId) → same_space there there ≡ true
-      itself there = grind arith
+  probed space count is = rw is (here_itself space)
 
   pub timeout_asks : (result : Result Timeout SenderError) → TimeoutResult now old new result
       → AsksIn (expired result) new

@@ -89,7 +89,7 @@ module _ {M : Type 0} where
 
 -- ---- the call
 
-here_itself : (there : SpaceId) → same_space there there ≡ true
+pub here_itself : (there : SpaceId) → same_space there there ≡ true
 here_itself there = grind arith
 
 module _ {F Q R C K S M : Type 0} {f : _} {c : _} {q : _} {m : _} {r : _}

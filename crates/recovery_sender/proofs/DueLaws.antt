@@ -24,31 +24,42 @@ use Rattle.recovery_sender.specs.Timeouts.{IsEarly, TimeoutResult, WaitsForItsTi
 use Rattle.recovery_sender.specs.Calls.{due_now, space_due}
 use Rattle.recovery_sender.specs.Timer.{soonest, loss_due, probe_in, probe_due, waits, deadlock_space, may_deadlock, due_of, behind, pto_of}
 
+-- ---- the earliest of several
+
+module _ (Has : ℕ × Due → Type 0) where
+  abbrev pub IfDue : Option (ℕ × Due) → Type 0
+  IfDue None = Unit {0}
+  IfDue (Some due) = Has due
+
+  one_has : (test : Bool) (one other : ℕ × Due) → Has one → Has other
+      → IfDue (if test then Some other else Some one)
+  one_has true one other first second = second
+  one_has false one other first second = first
+
+  sooner_has : (one other : Option (ℕ × Due)) → IfDue one → IfDue other → IfDue (sooner one other)
+  sooner_has None other first second = second
+  sooner_has (Some one) None first second = first
+  sooner_has (Some one) (Some other) first second = one_has (nat_lt other.0 one.0) one other first second
+
+  pub soonest_has : (due : SpaceId → Option (ℕ × Due)) → ((space : SpaceId) → IfDue (due space)) → IfDue (soonest due)
+  soonest_has due all = sooner_has _ _ (sooner_has _ _ (all Initial) (all Handshake)) (all Data)
+
+  pub or_has : (one other : Option (ℕ × Due)) → IfDue one → IfDue other → IfDue (option_or one other)
+  or_has None other first second = second
+  or_has (Some one) other first second = first
+
+  pub unless_has : (test : Bool) (due : Option (ℕ × Due)) → IfDue due → IfDue (if test then None else due)
+  unless_has true due has = tt {0}
+  unless_has false due has = has
+
+-- ---- what is due is so in a space that is not discarded
+
 module _ (discarded : DiscardedSpaces) where
-  -- in a space that is not discarded, if something is due
+  abbrev Lives : ℕ × Due → Type 0
+  Lives due = is_discarded (space_due due.1) discarded ≡ false
+
   abbrev IsThere : Option (ℕ × Due) → Type 0
-  IsThere None = Unit {0}
-  IsThere (Some due) = is_discarded (space_due due.1) discarded ≡ false
-
-  one_there : (is_first : Bool) (first second : Option (ℕ × Due)) → IsThere first → IsThere second
-      → IsThere (if is_first then first else second)
-  one_there true first second there later = there
-  one_there false first second there later = later
-
-  sooner_there : (first second : Option (ℕ × Due)) → IsThere first → IsThere second → IsThere (sooner first second)
-  sooner_there None second there later = later
-  sooner_there (Some one) None there later = there
-  sooner_there (Some one) (Some other) there later =
-      one_there (nat_lt other.0 one.0) (Some other) (Some one) later there
-
-  soonest_there : (due : SpaceId → Option (ℕ × Due)) → ((space : SpaceId) → IsThere (due space))
-      → IsThere (soonest due)
-  soonest_there due there =
-      sooner_there _ _ (sooner_there _ _ (there Initial) (there Handshake)) (there Data)
-
-  or_there : (first second : Option (ℕ × Due)) → IsThere first → IsThere second → IsThere (option_or first second)
-  or_there None second there later = later
-  or_there (Some one) second there later = there
+  IsThere = IfDue Lives
 
   -- what is due in a space by its state, if it is not discarded
   within : {P M : Type 0} (gone : Bool) (here : Space P M) (due : Space P M → Option (ℕ × Due))
@@ -74,10 +85,6 @@ module _ (discarded : DiscardedSpaces) where
   lost space true here is = tt {0}
   lost space false here is = mapped space here.loss_time is
 
-  waiting : (waits : Bool) (due : Option (ℕ × Due)) → IsThere due → IsThere (if waits then None else due)
-  waiting true due there = tt {0}
-  waiting false due there = there
-
   ended : (space : SpaceId) (validated gone : Bool) (time : ℕ) → is_discarded space discarded ≡ gone
       → IsThere (if validated || gone then None else Some (time, AntiDeadlock space))
   ended space true gone time is = tt {0}
@@ -88,17 +95,18 @@ module _ {K P M : Type 0} (recovery : RecoveryState K P M) (variables : Variable
   probe_there : (space : SpaceId) → IsThere recovery.discarded (probe_due recovery variables space)
   probe_there space =
       let here = space_of space recovery.spaces in
-      waiting recovery.discarded (waits recovery variables space) _
+      unless_has (Lives recovery.discarded) (waits recovery variables space) _
       (within recovery.discarded (is_discarded space recovery.discarded) here (probe_in recovery variables space)
       (λ kept. probed recovery.discarded space _ (λ sent. behind sent (pto_of recovery variables space)) _ kept))
 
   due_there_or_none : IsThere recovery.discarded (due_of recovery variables)
   due_there_or_none =
       let gone = recovery.discarded in let last = deadlock_space recovery variables in
-      or_there gone _ _ (soonest_there gone (loss_due recovery)
+      let Here = Lives gone in
+      or_has Here _ _ (soonest_has Here (loss_due recovery)
       (λ space. lost gone space (is_discarded space gone) (space_of space recovery.spaces) refl))
-      (waiting gone (is_blocked recovery.paths.current.state 1) _
-      (or_there gone _ _ (soonest_there gone (probe_due recovery variables) probe_there)
+      (unless_has Here (is_blocked recovery.paths.current.state 1) _
+      (or_has Here _ _ (soonest_has Here (probe_due recovery variables) probe_there)
       (ended gone last (not (may_deadlock recovery variables)) (is_discarded last gone) _ refl)))
 
   pub due_there : (due : ℕ × Due) → due_of recovery variables ≡ Some due

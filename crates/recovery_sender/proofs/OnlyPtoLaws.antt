@@ -1,16 +1,14 @@
 -- If nothing but a probe of 1-RTT packets may be due, that is still so after one is sent, with the same timeout.
-use Rattle.std.proofs.Common.{◌≡◌, ℕ, false, Bool, ◌||◌, Option, None, Some, Ok, refl, ap, subst, ◌∙◌}
+use Rattle.std.proofs.Common.{◌≡◌, ℕ, Bool, Option, None, Some, Ok, refl, ap, subst, ◌∙◌}
 use Rattle.std.proofs.lemmas.Option.{none-some}
-use Rattle.std.specs.Prelude.{IfSome, if◌then◌else◌, min}
-use Rattle.std.specs.Option.{is_some, option_map_or}
+use Rattle.std.specs.Prelude.{IfSome, min}
+use Rattle.std.specs.Option.{is_some}
 use Rattle.recovery_base.specs.declared.below.SpaceId.{SpaceId}
 use Rattle.recovery_base.specs.declared.below.SpaceId.TheVariants.{Initial, Handshake, Data}
 use Rattle.recovery_congestion.specs.Rtt.{pto_base_of}
 use Rattle.recovery_events.specs.declared.event.Answer.{Answer}
 use Rattle.recovery_events.specs.declared.event.Event.TheVariants.{Send}
-use Rattle.recovery_spaces.specs.declared.discarded.DiscardedSpaces.{DiscardedSpaces}
-use Rattle.recovery_spaces.specs.Discarded.{is_discarded}
-use Rattle.recovery_spaces.specs.Spaces.{Space, packets_of, space_of}
+use Rattle.recovery_spaces.specs.Spaces.{Space}
 use Rattle.recovery_losses.specs.declared.variables.Variables.{Variables}
 use Rattle.recovery_losses.specs.Timeouts.{probe_timeout_of}
 use Rattle.recovery_losses.specs.Variables.{ack_delay_in, based, probed}
@@ -20,8 +18,8 @@ use Rattle.recovery_history.specs.History.{QueueModel}
 use Rattle.recovery_history.specs.RecoveryState.{RecoveryState}
 use Rattle.recovery_history.specs.Unlogged.{UnloggedState}
 use Rattle.recovery_history.specs.Transitions.{StateTransition}
-use Rattle.recovery_sender.specs.Timer.{IsOnlyPto, competes, has_eliciting, only_pto, pto_of, rtt_or}
-use Rattle.recovery_sender.proofs.TimerUnchangedLaws.{only_by_parts}
+use Rattle.recovery_sender.specs.Timer.{IsOnlyPto, only_pto, pto_of, rtt_or}
+use Rattle.recovery_sender.proofs.TimerUnchangedLaws.{competes_same, only_by_parts, read_of}
 
 -- what a sent packet changes of the variables is no input of the probe timeout
 only_varied : {K P M : Type 0} (recovery : RecoveryState K P M) (variables : Variables) (space : Option SpaceId)
@@ -37,17 +35,10 @@ module _ {K Q S M P : Type 0} (queue : QueueModel Q S M P) (variables : Variable
   discarded : new.discarded ≡ old.discarded
   discarded = ap (λ (plain : UnloggedState). plain.discarded) changes.plain
 
-  competes_still : (space : SpaceId) → space_of space new.spaces ≡ space_of space old.spaces
-      → competes new variables space ≡ competes old variables space
-  competes_still space is =
-      let gone = discarded in
-      let same : (new.discarded, space_of space new.spaces) ≡ (old.discarded, space_of space old.spaces) = cc in
-      ap (λ (it : DiscardedSpaces × Space P M). option_map_or (λ (here : Space P M). is_some here.loss_time
-      || has_eliciting (packets_of here)) (if is_discarded space it.0 then None else Some it.1) false) same
-
   still_only : only_pto new variables ≡ only_pto old variables
-  still_only = only_by_parts variables old new (competes_still Initial (changes.steps.spaces Initial))
-      (competes_still Handshake (changes.steps.spaces Handshake))
+  still_only = only_by_parts variables old new
+      (competes_same variables old new discarded Initial (ap read_of (changes.steps.spaces Initial)))
+      (competes_same variables old new discarded Handshake (ap read_of (changes.steps.spaces Handshake)))
       (ap (λ (here : Space P M). is_some here.loss_time) (changes.steps.spaces Data).1) discarded
       (ap (λ (known : PerPath (PathReplyInputs K)). is_blocked known.current.state 1) changes.steps.paths)
       (ap (λ (known : PerPath (PathReplyInputs K)). probe_timeout_of (pto_base_of (rtt_or variables.initial_rtt

@@ -43,10 +43,10 @@ use Rattle.recovery_sender.specs.Timer.{IsOnlyPto, behind, competes, deadlock_by
 
 -- ---- the inputs of a space
 
-abbrev Read : (P M : Type 0) → Type 0
+abbrev pub Read : (P M : Type 0) → Type 0
 Read P M = Packets P M × Option ℕ × Option ℕ
 
-abbrev read_of : {P M : Type 0} → Space P M → Read P M
+abbrev pub read_of : {P M : Type 0} → Space P M → Read P M
 read_of here = (packets_of here, here.loss_time, here.time_of_last_ack_eliciting_packet)
 
 -- an event of a space that changes nothing of it
@@ -180,6 +180,20 @@ module _ {K P M : Type 0} where
         λ known is pto at. subst (λ (timing : Timing). timing.2 ≡ Some pto) (sym same) (is pto at),
       )
 
+module _ {K P M : Type 0} (variables : Variables) (old new : RecoveryState K P M)
+    (discarded : new.discarded ≡ old.discarded) (space : SpaceId) where
+  pub competes_same : read_of (space_of space new.spaces) ≡ read_of (space_of space old.spaces)
+      → competes new variables space ≡ competes old variables space
+  competes_same same = rw discarded (go (is_discarded space old.discarded))
+    where
+      go : (gone : Bool)
+          → option_map_or (λ (here : Space P M). is_some here.loss_time || has_eliciting (packets_of here))
+          (if gone then None else Some (space_of space new.spaces)) false
+          ≡ option_map_or (λ (here : Space P M). is_some here.loss_time || has_eliciting (packets_of here))
+          (if gone then None else Some (space_of space old.spaces)) false
+      go true = refl
+      go false = ap (λ (read : Read P M). is_some read.1 || has_eliciting read.0) same
+
 abbrev either_due : Option (ℕ × Due) → Bool → Option (ℕ × Due) → Option (ℕ × Due) → Option (ℕ × Due)
 either_due losses blocked probes deadlock = option_or losses (if blocked then None else option_or probes deadlock)
 
@@ -253,19 +267,11 @@ module _ {K P M : Type 0} (variables : Variables) (old new : RecoveryState K P M
       ) = cc in
       ap (λ (it : Option (ℕ × Due) × Bool × Option (ℕ × Due) × Option (ℕ × Due)). either_due it.0 it.1 it.2 it.3) same
 
-  competes_same : (space : SpaceId) → competes new variables space ≡ competes old variables space
-  competes_same space = rw discarded (go (is_discarded space old.discarded))
-    where
-      go : (gone : Bool)
-          → option_map_or (λ (here : Space P M). is_some here.loss_time || has_eliciting (packets_of here))
-          (if gone then None else Some (space_of space new.spaces)) false
-          ≡ option_map_or (λ (here : Space P M). is_some here.loss_time || has_eliciting (packets_of here))
-          (if gone then None else Some (space_of space old.spaces)) false
-      go true = refl
-      go false = ap (λ (read : Read P M). is_some read.1 || has_eliciting read.0) (spaces space)
+  competes_here : (space : SpaceId) → competes new variables space ≡ competes old variables space
+  competes_here space = competes_same variables old new discarded space (spaces space)
 
   only_same : only_pto new variables ≡ only_pto old variables
-  only_same = only_by_parts variables old new (competes_same Initial) (competes_same Handshake)
+  only_same = only_by_parts variables old new (competes_here Initial) (competes_here Handshake)
       (ap (λ (read : Read P M). is_some read.1) (spaces Data)) discarded blocked (pto_same Data)
 
   -- what is known of the timer stays

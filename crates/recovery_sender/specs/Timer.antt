@@ -113,8 +113,8 @@ module _ {K P M : Type 0} (recovery : RecoveryState K P M) (variables : Variable
   competes space =
       option_map_or (λ here. is_some here.loss_time || has_eliciting (packets_of here)) (space_in recovery space) false
 
-  -- The probe timeout of 1-RTT packets, if nothing but a probe of them may be due: after the handshake, while no packet
-  -- is suspected lost and the path in use may send a byte.
+  -- The probe timeout of 1-RTT packets, if no loss and no probe of another space may be due. So it is after the
+  -- handshake, while no packet is suspected lost and the path in use may send a byte.
   abbrev pub only_pto : Option ℕ
   only_pto = if competes Initial || competes Handshake then None
       else option_and_then (λ here. if is_some here.loss_time || is_blocked recovery.paths.current.state 1

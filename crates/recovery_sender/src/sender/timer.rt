@@ -59,8 +59,7 @@ where
         self.set_timer_to(due, known);
     }
 
-    /// Sets the timer. If the only probe timeout that may be due is known, none is computed, and no other space is
-    /// examined.
+    /// Sets the timer. If the only probe timeout that may be due is known, it is not computed again.
     #[inline(always)]
     pub(super) fn move_timer(&mut self, known: Option<Duration>)
         requires { IsOnlyPto (state_in self.old) self.old.variables known }
@@ -200,8 +199,8 @@ where
         }
     }
 
-    /// Returns the probe timeout of 1-RTT packets if nothing but a probe of them may be due. So it is after the
-    /// handshake while no packet is suspected lost, and it takes a few instructions.
+    /// Returns the probe timeout of 1-RTT packets, if no loss and no probe of another space may be due. So it is after
+    /// the handshake, while no packet is suspected lost.
     #[inline(always)]
     fn only_pto(&self) -> Option<Duration>
         ensures { result ≡ only_pto (state_in self.now) self.now.variables }
