@@ -108,6 +108,8 @@ class World:
         self.went[end] += packet.size
         if end == "server" and end not in self.validated:
             holds("threefold", self.went[end] <= 3 * self.came[end])
+        if packet.items:
+            holds("what is sent was passed", set(packet.items) <= set(self.handed[end, space]))
         for item in packet.items:
             self.repeated(end, space, item)
 

@@ -12,12 +12,13 @@ use Rattle.recovery_pair.specs.declared.endpoint.Outgoing.TheVariants as outgoin
 use Rattle.recovery_pair.specs.declared.endpoint.Waiting.{Waiting}
 use Rattle.recovery_pair.specs.declared.steps.AckOutcome.{AckOutcome}
 use Rattle.recovery_pair.specs.declared.steps.Fate.TheVariants.{New}
-use Rattle.recovery_pair.specs.Carried.{Balances, Carries, CarriesNone, CarriesOn, ContentsTurn, Exchanges, IsNoProbe, IsProbeIn, IsProbeWith, MovesBack, MovesItems, MovesNone, MovesSent, TakesItems, lost_by_ack, lost_by_fate, losing, none_lost, sending_with, taken_if, taking}
+use Rattle.recovery_pair.specs.Carried.{Balances, Carries, CarriesNone, CarriesOn, ContentsTurn, Exchanges, IsNoProbe, IsProbeIn, IsProbeWith, MovesBack, MovesItems, MovesNone, MovesSent, TakesItems, TakesSent, lost_by_ack, lost_by_fate, losing, none_lost, sending_with, taken_if, taking}
 use Rattle.recovery_pair.specs.Logs.{part}
 use Rattle.recovery_pair.specs.Waits.{waiting_in}
 use Rattle.recovery_pair.specs.Promises.Repeats.{is_probe}
 use Rattle.recovery_pair.proofs.ItemLaws.{carries_then, same_carries, taken_then_sent, then_carries}
-use Rattle.recovery_pair.proofs.AlongLaws.{joined}
+use Rattle.recovery_pair.proofs.AlongLaws.{beginning_of, joined, past_after, went}
+use Rattle.recovery_pair.proofs.RepeatLaws.{none_taken}
 
 -- ---- what waits
 
@@ -100,6 +101,7 @@ module _ {F Q R C K S M : Type 0} {f : _} {c : _} {q : _} {m : _} {r : _} where
     takes = None;
     probes = None;
     probed = idle;
+    resent = λ own measure adds space none. refl;
     goes = goes;
     balances = λ measure none space. (
         let same = ap (λ (all : List Waiting). waiting_in measure space all) kept in omega (arith, same));
@@ -126,6 +128,17 @@ module _ {F Q R C K S M : Type 0} {f : _} {c : _} {q : _} {m : _} {r : _} where
       (then_carries _ old counted new first (then_carries _ counted heard new second
       (carries_then _ heard taken new third fourth))) kept
 
+  -- what is taken from the retransmission queue was sent before
+  takes_sent : (probe : Bool) (space : SpaceId) (items : List ℕ)
+      (old new : Sender F Q R C K S M (List ℕ) f c q m r × List Waiting) (takes : TakesItems probe space items old new)
+      → TakesSent (Some (space, takes.queued)) old.0
+  takes_sent probe space items old new takes own measure adds there none =
+      let goes = went own takes.goes in
+      let taken = none_taken (beginning_of own) measure adds there goes.0 goes.1.replies
+      (λ n. let one = none n in let two = goes.2.sent measure there n in omega (arith, one, two)) in
+      let is = goes.2.taken measure there in
+      omega (arith, taken, is)
+
   -- a packet is sent with what was to be repeated, or with what waited
   pub sends_move : (probe : Bool) (space : SpaceId) (n : ℕ) (queue items : List ℕ)
       (old taken sent new : Sender F Q R C K S M (List ℕ) f c q m r) (waits between after : List Waiting)
@@ -143,6 +156,7 @@ module _ {F Q R C K S M : Type 0} {f : _} {c : _} {q : _} {m : _} {r : _} where
         takes = Some (space, takes.queued);
         probes = taken_if probe space takes.queued;
         probed = probe_sends probe space takes.queued queue items takes.first same;
+        resent = takes_sent probe space queue (old, waits) (taken, between) takes;
         goes = subst (λ (these : List ℕ). Carries (Turn these) old new) (sym same)
             (carries_then (Turn queue) old sent new (joined (CarriesOn q.contents (taking probe space takes.queued))
             (CarriesOn q.contents (sending_with space n queue)) (CarriesOn q.contents (Turn queue))
@@ -163,6 +177,7 @@ module _ {F Q R C K S M : Type 0} {f : _} {c : _} {q : _} {m : _} {r : _} where
     takes = Some (space, takes.queued);
     probes = taken_if probe space takes.queued;
     probed = probe_there probe space takes.queued;
+    resent = takes_sent probe space queue (old, waits) (taken, between) takes;
     goes = carries_then (taking probe space takes.queued) old taken new takes.goes second;
     balances = λ measure none there. (
         let one = takes.exchanges measure none there in
@@ -179,6 +194,7 @@ module _ {F Q R C K S M : Type 0} {f : _} {c : _} {q : _} {m : _} {r : _} where
     takes = None;
     probes = None;
     probed = tt;
+    resent = λ own measure adds space none. refl;
     goes = same_carries old new same;
     balances = λ measure none there. (
         let one = puts measure none there in
@@ -195,6 +211,8 @@ module _ {F Q R C K S M : Type 0} {f : _} {c : _} {q : _} {m : _} {r : _} where
     takes = moves.takes;
     probes = moves.probes;
     probed = moves.probed;
+    resent = λ own measure adds space none. moves.resent (past_after own first) measure adds space
+        (λ n. let one = none n in let two = (went own first).2.sent measure space n in omega (arith, one, two));
     goes = then_carries _ old between new first moves.goes;
     balances = subst (λ (all : List Waiting). Balances all after hands moves.takes sends) is moves.balances;
   }

@@ -13,6 +13,7 @@ use Rattle.recovery_pair.specs.declared.steps.LocalStep.TheVariants.{Discard, Ex
 use Rattle.recovery_pair.specs.declared.steps.PairAnswer.TheVariants.{Done, Expired, Failed, Nothing, Sent}
 use Rattle.recovery_pair.specs.declared.steps.PairStep.TheVariants.{Local, Send}
 use Rattle.recovery_pair.specs.Logs.{PairEvent, PairLog}
+use Rattle.recovery_pair.specs.Promises.Passed.{SendsWhatIsPassed}
 use Rattle.recovery_pair.specs.Promises.Repeats.{RepeatsWithCause, probed_in}
 use Rattle.recovery_pair.specs.Promises.Resends.{AddsItems, ResendsWhatIsLost, lost_in}
 
@@ -117,6 +118,22 @@ module _ (items : Vec ℕ) where
     not_twice these repeats =
         let most = rw (lost, none, these) at (repeats Client Data refl length counts_items) in
         absurd (omega (arith, most))
+
+  -- nothing is invented: what was passed is sent
+  passed_is_right : SendsWhatIsPassed sent_once
+  passed_is_right Client measure adds Data none = omega (arith, none)
+  passed_is_right Client measure adds space none = refl
+  passed_is_right Server measure adds space none = refl
+
+  -- and nothing else is, not even by a probe
+  never_passed : items.items ≡ 7 ∷ [] → ¬ SendsWhatIsPassed (sends_them 0 None ∷ [])
+  never_passed these passed =
+      let zero = rw these at (passed Client length counts_items Data refl) in absurd (omega (arith, zero))
+
+  passed_in_another_space : items.items ≡ 7 ∷ []
+      → ¬ SendsWhatIsPassed (sends_them 0 None ∷ (Local Client (Hand Initial items), Ok Done) ∷ [])
+  passed_in_another_space these passed =
+      let zero = rw these at (passed Client length counts_items Data refl) in absurd (omega (arith, zero))
 
   -- a packet that could not be tracked ends the promise in its space
   not_after_a_failure : (refusal : SenderError)

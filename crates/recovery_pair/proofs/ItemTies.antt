@@ -26,8 +26,9 @@ use Rattle.recovery_pair.specs.declared.steps.PairAnswer.{PairAnswer}
 use Rattle.recovery_pair.specs.declared.steps.PairAnswer.TheVariants.{Arrived, Done, Expired, Failed, Nothing, Sent}
 use Rattle.recovery_pair.specs.declared.steps.PairStep.{PairStep}
 use Rattle.recovery_pair.specs.declared.steps.PairStep.TheVariants.{Arrive, Local, Send}
-use Rattle.recovery_pair.specs.Carried.{CarriesItems, IsNoProbe, IsProbeIn, IsProbeWith, MovesBack, MovesItems, MovesNone, all_sent_with, amount_of, amount_sent, amount_with, hands_by, lost_by_fate, lost_by_local, lost_by_timeout, none_lost}
-use Rattle.recovery_pair.specs.Logs.{PairEvent, PairLog, handed, other_end, part, sends_of, sent_in, was_discarded}
+use Rattle.recovery_pair.specs.Carried.{CarriesItems, IsNoProbe, IsProbeIn, IsProbeWith, MovesBack, MovesItems, MovesNone, all_sent_with, amount_of, amount_sent, amount_with, hands_by, lost_by_fate, lost_by_local, lost_by_timeout, none_lost, sent_with}
+use Rattle.recovery_pair.specs.Filled.{AtEnd}
+use Rattle.recovery_pair.specs.Logs.{PairEvent, PairLog, handed, other_end, part, same_end, sends_of, sent_in, was_discarded}
 use Rattle.recovery_pair.specs.Permits.{HoldsAt, IsIdle, PermitsOutcome}
 use Rattle.recovery_pair.specs.Promises.Repeats.{RepeatsWithCause, has_failed, is_probe, probed_in}
 use Rattle.recovery_pair.specs.Promises.Resends.{AddsItems, ResendsWhatIsLost, lost_by, lost_in, sent_under, sum_of}
@@ -36,7 +37,7 @@ use Rattle.recovery_pair.specs.Waits.{LosesNone, waiting_in}
 use Rattle.recovery_pair.proofs.AlongLaws.{beginning_of, past_after, went}
 use Rattle.recovery_pair.proofs.ItemMoves.{empty_part, same_moves}
 use Rattle.recovery_pair.proofs.LogLaws.{IsNoPacket, IsNotLocal}
-use Rattle.recovery_pair.proofs.RepeatLaws.{repeats_lost}
+use Rattle.recovery_pair.proofs.RepeatLaws.{none_taken, repeats_lost}
 use Rattle.recovery_pair.proofs.RequeueLaws.{or_first, or_second, requeues_lost}
 
 -- ---- what a step adds to the log of one endpoint
@@ -95,6 +96,27 @@ nothing_added event log end adds = record {
   probes_is = unprobed event log end adds.probes_same adds.fails_same;
 }
 
+-- what is sent under a number is sent in the space
+sends_within : (end : End) (measure : List ℕ → ℕ) (space : SpaceId) (n : ℕ) (log : PairLog)
+    → sum_of measure (sends_of end space n log) ≤ sent_in end measure space log
+sends_within end measure space n [] = omega arith
+sends_within end measure space n ((Send from there now size, Ok (Sent number items eliciting window ack)) ∷ log) =
+    by (sends_within end measure space n log) (same_end from end) (same_space there space) (number == n)
+  where
+    by : sum_of measure (sends_of end space n log) ≤ sent_in end measure space log → (a b d : Bool)
+        → sum_of measure (if a && (b && d) then items.items ∷ sends_of end space n log else sends_of end space n log)
+        ≤ part (a && b) (measure items.items) + sent_in end measure space log
+    by rest true true true = omega (arith, rest)
+    by rest true true false = omega (arith, rest)
+    by rest true false d = omega (arith, rest)
+    by rest false b d = omega (arith, rest)
+sends_within end measure space n (event ∷ log) = sends_within end measure space n log
+
+-- at both endpoints
+pub at_each : (Holds : End → Type 0) → Holds Client → Holds Server → (end : End) → Holds end
+at_each Holds client server Client = client
+at_each Holds client server Server = server
+
 module _ {F Q R C K S M : Type 0} {f : _} {c : _} {q : _} {m : _} {r : _} where
   pub under_past : (end : End) (log : PairLog) (here : Sender F Q R C K S M (List ℕ) f c q m r × List Waiting)
       (carried : CarriesItems log end here) (measure : List ℕ → ℕ) (space : SpaceId) (numbers : List ℕ)
@@ -139,6 +161,21 @@ module _ {F Q R C K S M : Type 0} {f : _} {c : _} {q : _} {m : _} {r : _} where
             let two = (own.2.probed measure space (carried.calm space)).1 in
             let three = more.1 in omega (arith, one, two, three));
         adds = carried.adds;
+        passed = λ measure items space none. (
+            let hands = adds.hands_is measure space in
+            let sends = adds.sends_is measure space in
+            let contents = carried.adds measure items in
+            let unpassed : handed end measure space log ≡ 0 = omega (arith, none, hands) in
+            let before = carried.passed measure items space unpassed in
+            let unsent : (n : ℕ) → sent_with q.contents measure space n carried.own.past ≡ 0 = λ n. (
+            let one = carried.sent measure space n in
+            let two = sends_within end measure space n log in omega (arith, one, two, before)) in
+            let taken = none_taken (beginning_of carried.own) measure contents space carried.own.past
+            carried.own.came.replies unsent in
+            let held = carried.held measure items.none space in
+            let takes = moves.resent carried.own measure contents space unsent in
+            let all = moves.balances measure items.none space in
+            omega (arith, none, hands, sends, before, taken, held, takes, all));
       }
 
   -- ---- nothing is lost
@@ -189,10 +226,9 @@ module _ {F Q R C K S M : Type 0} {f : _} {c : _} {q : _} {m : _} {r : _} where
 
   -- ---- one endpoint makes a step, the other does nothing
 
-  abbrev pub ItemsKept : Sender F Q R C K S M (List ℕ) f c q m r × List Waiting
-      → Sender F Q R C K S M (List ℕ) f c q m r × List Waiting → PairStep → Result PairAnswer SenderError
-      → Sender F Q R C K S M (List ℕ) f c q m r × List Waiting
-      → Sender F Q R C K S M (List ℕ) f c q m r × List Waiting → Type 0
+  abbrev pub ItemsKept : (client server : Sender F Q R C K S M (List ℕ) f c q m r × List Waiting) (step : PairStep)
+      (answer : Result PairAnswer SenderError)
+      (client_after server_after : Sender F Q R C K S M (List ℕ) f c q m r × List Waiting) → Type 0
   ItemsKept client server step answer client_after server_after = (log : PairLog)
       → KnowsDiscarded log Client client.0 → KnowsDiscarded log Server server.0 → CarriesItems log Client client
       → CarriesItems log Server server → ResendsWhatIsLost log (step, answer)
@@ -205,14 +241,7 @@ module _ {F Q R C K S M : Type 0} {f : _} {c : _} {q : _} {m : _} {r : _} where
   idle_on event log end old new adds same =
       carries_on event log end None None none_lost IsNoProbe old new (nothing_added event log end adds)
       (same_moves old.0 new.0 old.1 new.1
-      (ap (λ (it : Sender F Q R C K S M (List ℕ) f c q m r × List Waiting). it.0) same)
-      (ap (λ (it : Sender F Q R C K S M (List ℕ) f c q m r × List Waiting). it.1) same))
-
-  abbrev pub HoldsOf : End → (Sender F Q R C K S M (List ℕ) f c q m r × List Waiting → Type 0)
-      → Sender F Q R C K S M (List ℕ) f c q m r × List Waiting
-      → Sender F Q R C K S M (List ℕ) f c q m r × List Waiting → Type 0
-  HoldsOf Client Holds client server = Holds client
-  HoldsOf Server Holds client server = Holds server
+      (ap (λ it. it.0) same) (ap (λ it. it.1) same))
 
   pub items_turn : (end : End) (hands : Option (SpaceId × List ℕ)) (sends : Option (SpaceId × ℕ × List ℕ))
       (loses : SpaceId → List ℕ) (IsProbed : Option (SpaceId × List ℕ) → Type 0) (step : PairStep)
@@ -223,7 +252,7 @@ module _ {F Q R C K S M : Type 0} {f : _} {c : _} {q : _} {m : _} {r : _} where
       → ((log : PairLog) → AddsToLog (step, answer) log end hands sends loses IsProbed)
       → ((log : PairLog) → AddsNothing (step, answer) log (other_end end))
       → (client server client_after server_after : Sender F Q R C K S M (List ℕ) f c q m r × List Waiting)
-      → HoldsOf end Also client server
+      → AtEnd end Also client server
       → TurnsAt end (MovesItems hands sends loses IsProbed) client server client_after server_after
       → ItemsKept client server step answer client_after server_after
   items_turn Client hands sends loses IsProbed step answer Also resends adds idle client server client_after
@@ -244,7 +273,7 @@ module _ {F Q R C K S M : Type 0} {f : _} {c : _} {q : _} {m : _} {r : _} where
   Any here = Unit {0}
 
   any_of : (end : End) (client server : Sender F Q R C K S M (List ℕ) f c q m r × List Waiting)
-      → HoldsOf end Any client server
+      → AtEnd end Any client server
   any_of Client client server = tt
   any_of Server client server = tt
 
@@ -569,7 +598,7 @@ module _ {F Q R C K S M : Type 0} {f : _} {c : _} {q : _} {m : _} {r : _} where
       → HoldsAt end (PermitsOutcome space now size (Ok outgoing.Nothing)) client.0 server.0
       → TurnsAt end (λ (old new : List Waiting). LosesNone old new
       × ((measure : List ℕ → ℕ) → waiting_in measure space old ≡ 0)) client.1 server.1 client_after.1 server_after.1
-      → HoldsOf end (IsIdleHere space) client server
+      → AtEnd end (IsIdleHere space) client server
   idle_here Client space now size client server client_after server_after permits waits = (permits.1, waits.0.1)
   idle_here Server space now size client server client_after server_after permits waits = (permits.1, waits.0.1)
 

@@ -109,6 +109,7 @@ module _ {F Q R C K S M : Type 0} {f : _} {c : _} {q : _} {m : _} {r : _} where
         probed = λ measure zero_is space tracks. (
             let one = (behind.2.probed measure space refl).1 in omega (arith, one));
         adds = adds;
+        passed = λ measure items space none. refl;
       }
 
   pub new_tied : (config others : RecoveryConfig F) (start : ℕ) (random words : Stream)

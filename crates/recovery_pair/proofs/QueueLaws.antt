@@ -19,12 +19,13 @@ use Rattle.recovery_pair.specs.declared.steps.PairStep.TheVariants.{Local, Send}
 use Rattle.recovery_pair.specs.declared.steps.WirePacket.{WirePacket}
 use Rattle.recovery_pair.specs.Filled.{FillsProbes}
 use Rattle.recovery_pair.specs.Logs.{PairEvent, PairLog, handed, other_end, part, sent_in}
+use Rattle.recovery_pair.specs.Promises.Passed.{IsAllPassed}
 use Rattle.recovery_pair.specs.Promises.Locals.{AnswersLocally, IsLocalAnswer}
 use Rattle.recovery_pair.specs.Promises.Sends.{SendsWhatWaits}
 use Rattle.recovery_pair.specs.Runs.{StepKeeps}
 use Rattle.recovery_pair.specs.Turns.{TurnsAt}
 use Rattle.recovery_pair.specs.Waits.{AreQueued, LocalWaits, LosesNone, LosesOne, waiting_in}
-use Rattle.recovery_pair.proofs.ItemTies.{ItemsKept, repeats_with_cause}
+use Rattle.recovery_pair.proofs.ItemTies.{ItemsKept, at_each, repeats_with_cause}
 use Rattle.recovery_pair.proofs.LogLaws.{IsNoPacket}
 use Rattle.recovery_pair.proofs.ProbeTies.{AsksAfter, SendsProbes, asked_kept, probes_kept}
 use Rattle.recovery_pair.proofs.StepTies.{ExchangeKept}
@@ -129,6 +130,7 @@ step_keeps client server client_after server_after wire wire_after client_waits 
           samples = one.0.samples;
           sends = two.0;
           resends = three.0;
+          passed = at_each (IsAllPassed ((step, answer) ∷ log)) three.1.passed three.2.passed;
           repeats = repeats_with_cause ((step, answer) ∷ log) (client_after, client_waits_after)
               (server_after, server_waits_after) three.1 three.2;
           probes = probes_kept client server wire client_waits server_waits step answer fills probes

@@ -3,6 +3,7 @@
 use Rattle.std.proofs.Common.{◌≡◌, ◌<◌, ◌≤◌, ◌+◌, ℕ, ◌==◌, ◌&&◌, ◌||◌, Bool, true, false, cond, List, [], ◌∷◌, ◌++◌, Option, None, Some, Ok, Err, option_map, refl, ap, ◌∙◌, subst, arith}
 use Rattle.std.proofs.lemmas.Bool.Decides.{nat_tests}
 use Rattle.std.specs.Prelude.{not, if◌then◌else◌}
+use Rattle.std.specs.Option.{option_and_then}
 use Rattle.recovery_base.specs.declared.below.SpaceId.{SpaceId}
 use Rattle.recovery_base.specs.declared.below.SpaceId.TheVariants.{Data}
 use Rattle.recovery_base.specs.Spaces.{same_space}
@@ -138,10 +139,12 @@ module _ {F K Q S M P : Type 0} (beginning : Beginning F K Q S M P) (measure : P
   abbrev sent_now : History Q S M P → ℕ → ℕ
   sent_now history n = sent_with beginning.queue.contents measure space n history
 
-  -- by a log of the space: what was taken or is queued was lost, or a probe takes it
+  -- By a log of the space: what was taken or is queued was lost, or a probe takes it. If nothing was sent, nothing was
+  -- taken or is queued.
   abbrev Repeats : List (SpaceEntry P M) → (ℕ → ℕ) → ℕ → ℕ → ℕ → Bool → Type 0
   Repeats log by lost taken probed asked = Fits measure by (sent_by words log).tracked
       × (taken + part (not asked) (measure (queued_by words log).pending) ≤ lost + probed)
+      × (((n : ℕ) → by n ≡ 0) → taken + measure (queued_by words log).pending ≡ 0)
 
   abbrev RepeatsIn : History Q S M P → Type 0
   RepeatsIn history = Repeats ((logs_of beginning history).spaces space) (sent_now history) (lost_now history)
@@ -167,16 +170,21 @@ module _ {F K Q S M P : Type 0} (beginning : Beginning F K Q S M P) (measure : P
     pushes_if : (b : Bool) (k : ℕ) (packet : Packet P M) (then_by : ℕ → ℕ)
         → ((n : ℕ) → n < sent.next → then_by n ≡ sent_now before n)
         → (b ≡ true → measure packet.retransmits ≤ then_by k)
+        → ((n : ℕ) → then_by n ≡ 0 → sent_now before n ≡ 0)
         → IsAfter (cond b (Some (sends k packet)) None) then_by (lost_now before) (taken_now before)
         (probed_now before) (is_probing space before)
-    pushes_if true k packet then_by same most = (
+    pushes_if true k packet then_by same most less = (
       fits_pushed measure then_by (without_some sent.tracked (forgotten_by sent packet)) k packet (most refl)
           (fits_without_some measure then_by sent.tracked (forgotten_by sent packet)
           (fits_as measure _ _ sent.next (sent_now before) then_by same sent.tracked (carry space) here.0)),
       here.1,
+      λ none. here.2 (λ n. less n (none n)),
     )
-    pushes_if false k packet then_by same most =
-        (fits_as measure _ _ sent.next (sent_now before) then_by same sent.tracked (carry space) here.0, here.1)
+    pushes_if false k packet then_by same most less = (
+      fits_as measure _ _ sent.next (sent_now before) then_by same sent.tracked (carry space) here.0,
+      here.1,
+      λ none. here.2 (λ n. less n (none n)),
+    )
 
     above_all : (there : SpaceId) → same_space there space ≡ true → sent.next ≤ number_in known there
     above_all there at = subst (λ s. (sent_in beginning before s).next ≤ number_in known there)
@@ -198,7 +206,8 @@ module _ {F K Q S M P : Type 0} (beginning : Beginning F K Q S M P) (measure : P
         (λ n below. other_number (same_space there space) (number_in known there) n sent.next
         (measure packet.retransmits) (sent_now before n) (above_all there) below)
         (this_number (same_space there space) (number_in known there) (measure packet.retransmits)
-        (sent_now before (number_in known there))))
+        (sent_now before (number_in known there)))
+        (λ n none. omega (arith, none)))
 
     -- an MTU probe is sent, which has no contents
     sends_probe : (packet : Packet P M) → packet.retransmits ≡ words.empty
@@ -206,23 +215,25 @@ module _ {F K Q S M P : Type 0} (beginning : Beginning F K Q S M P) (measure : P
         (lost_now before) (taken_now before) (probed_now before) (is_probing space before)
     sends_probe packet none = pushes_if (same_space Data space) (number_in known Data) packet (sent_now before)
         (λ n below. refl)
-        (λ at. let is = ap measure none ∙ adds.none in omega (arith, is))
+        (λ at. let is = ap measure none ∙ adds.none in omega (arith, is)) (λ n none. none)
 
     -- a packet is declared lost
     loses_one : (b : Bool) (n : ℕ) → (b ≡ true → ¬ (packet_at sent.tracked n ≡ None))
         → IsAfter (cond b (Some (loses n)) None) (sent_now before) (part b (sent_now before n) + lost_now before)
         (taken_now before) (probed_now before) (is_probing space before)
     loses_one true n tracked =
-        let found = is_there (packet_at sent.tracked n) (tracked refl) in (
+        let found = is_there (packet_at sent.tracked n) (tracked refl) in
+        let joins : measure (joined_with words pending (packet_at sent.tracked n))
+        ≡ measure pending + measure found.0.retransmits = ap (λ (one : Option (Packet P M)).
+        measure (joined_with words pending one)) found.1 ∙ adds.joined pending found.0.retransmits in
+        let most = fits_found measure (sent_now before) sent.tracked here.0 n found.0 found.1 in (
           fits_without measure (sent_now before) sent.tracked n here.0,
           lost_more (is_probing space before) (taken_now before) (measure pending) (lost_now before)
               (probed_now before) (measure found.0.retransmits) (sent_now before n)
-              (measure (joined_with words pending (packet_at sent.tracked n))) here.1
-              (ap (λ (one : Option (Packet P M)). measure (joined_with words pending one)) found.1
-              ∙ adds.joined pending found.0.retransmits)
-              (fits_found measure (sent_now before) sent.tracked here.0 n found.0 found.1),
+              (measure (joined_with words pending (packet_at sent.tracked n))) here.1 joins most,
+          λ none. (let zero = here.2 none in let unsent = none n in omega (arith, zero, joins, most, unsent)),
         )
-    loses_one false n tracked = (here.0, let most = here.1 in omega (arith, most))
+    loses_one false n tracked = (here.0, let most = here.1 in omega (arith, most), here.2)
 
     -- the retransmission queue is taken
     takes_all : (b : Bool) (out : P) → (b ≡ true → out ≡ pending)
@@ -234,8 +245,30 @@ module _ {F K Q S M P : Type 0} (beginning : Beginning F K Q S M P) (measure : P
       here.0,
       taken_more (is_probing space before) (taken_now before) (measure pending) (lost_now before) (probed_now before)
           (measure out) (measure words.empty) here.1 (ap measure (is refl)) adds.none,
+      λ none. (
+          let zero = here.2 none in
+          let all = ap measure (is refl) in let empty = adds.none in omega (arith, zero, all, empty)),
     )
-    takes_all false out is = (here.0, let most = here.1 in omega (arith, most))
+    takes_all false out is = (
+      here.0,
+      let most = here.1 in omega (arith, most),
+      λ none. let zero = here.2 none in omega (arith, zero),
+    )
+
+    -- the contents of a packet are joined to the queue
+    moves_none : (moved : Option ℕ) → ((n : ℕ) → sent_now before n ≡ 0)
+        → taken_now before + measure (joined_with words pending (option_and_then (packet_at sent.tracked) moved)) ≡ 0
+    moves_none None none = here.2 none
+    moves_none (Some n) none = by (packet_at sent.tracked n) refl
+      where
+        by : (found : Option (Packet P M)) → packet_at sent.tracked n ≡ found
+            → taken_now before + measure (joined_with words pending found) ≡ 0
+        by None is = here.2 none
+        by (Some packet) is =
+            let zero = here.2 none in
+            let joins = adds.joined pending packet.retransmits in
+            let most = fits_found measure (sent_now before) sent.tracked here.0 n packet is in
+            let unsent = none n in omega (arith, zero, joins, most, unsent)
 
     -- contents are queued for a probe
     queues_probe : (b immediate : Bool) (found : ProbeFound)
@@ -244,6 +277,7 @@ module _ {F K Q S M P : Type 0} (beginning : Beginning F K Q S M P) (measure : P
     queues_probe true immediate found = (
       fits_moved measure (sent_now before) words.empty adds.none found.moved sent here.0,
       let most = here.1 in omega (arith, most),
+      moves_none found.moved,
     )
     queues_probe false immediate found = here
 
@@ -254,6 +288,7 @@ module _ {F K Q S M P : Type 0} (beginning : Beginning F K Q S M P) (measure : P
       tt,
       emptied_then (is_probing space before) (taken_now before) (measure pending) (lost_now before)
           (probed_now before) (measure words.empty) here.1 adds.none,
+      λ none. (let zero = here.2 none in let empty = adds.none in omega (arith, zero, empty)),
     )
     empties false = here
 
@@ -261,7 +296,7 @@ module _ {F K Q S M P : Type 0} (beginning : Beginning F K Q S M P) (measure : P
     stays : (entry : SpaceEntry P M) → repeats_on (space_kind entry) ≡ true
         → IsAfter (Some entry) (sent_now before) (lost_now before) (taken_now before) (probed_now before)
         (is_probing space before)
-    stays (acknowledged number) on = (fits_without measure (sent_now before) sent.tracked number here.0, here.1)
+    stays (acknowledged number) on = (fits_without measure (sent_now before) sent.tracked number here.0, here.1, here.2)
     stays entry on = grind (arith, on, here)
 
     reply_repeats : (event : Event Q S M P) (reply : Reply Q) → RepliesAfter beginning before event reply
@@ -306,16 +341,22 @@ module _ {F K Q S M P : Type 0} (beginning : Beginning F K Q S M P) (measure : P
     repeats = reply_repeats beginning measure adds space before kept.carry kept.repeats event reply told;
   }
 
+  repeats_after : (history : History Q S M P) → AtEach (RepliesAfter beginning) history → KeepsRepeats history
+  repeats_after = let none = adds.none in
+      kept_after (RepliesAfter beginning) KeepsRepeats keeps_repeats (record {
+        carry = none_carry beginning;
+        repeats = (tt, omega (arith, none), λ zero. omega (arith, none));
+      })
+
   -- what was taken was lost, or a probe took it
   pub repeats_lost : (history : History Q S M P) → AtEach (RepliesAfter beginning) history
       → taken_there beginning.queue.contents measure space history
       ≤ lost_there beginning.queue.contents measure space history
       + probed_there beginning.queue.contents measure space history
-  repeats_lost history replies =
-      let none = adds.none in
-      let all = kept_after (RepliesAfter beginning) KeepsRepeats keeps_repeats (record {
-        carry = none_carry beginning;
-        repeats = (tt, omega (arith, none));
-      }) history replies in
-      let most = all.repeats.1 in
-      omega (arith, most)
+  repeats_lost history replies = let most = (repeats_after history replies).repeats.1 in omega (arith, most)
+
+  -- if nothing was sent, nothing is taken
+  pub none_taken : (history : History Q S M P) → AtEach (RepliesAfter beginning) history
+      → ((n : ℕ) → sent_with beginning.queue.contents measure space n history ≡ 0)
+      → taken_there beginning.queue.contents measure space history ≡ 0
+  none_taken history replies none = let zero = (repeats_after history replies).repeats.2 none in omega (arith, zero)

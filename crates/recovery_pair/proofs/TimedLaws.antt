@@ -146,23 +146,24 @@ module _ {F Q R C K S M P : Type 0} {f : _} {c : _} {q : _} {m : _} {r : _} (old
             (rw some (heard_known space now (is_first_sample (state_in old)
             (rtt_of (state_in old) space now ranges is.elicits)) old.variables))
 
--- one endpoint makes a call, the other none
-pub timers_at : {F Q R C K S M P : Type 0} {f : _} {c : _} {q : _} {m : _} {r : _} (end : End) (after : Known → Known)
-    (client server client_after server_after : Sender F Q R C K S M P f c q m r)
-    → TurnsAt end (KeepsTimerAs after) client server client_after server_after → (known : End → Known)
-    → AreTimedAs known client server
-    → AreTimedAs (λ at. if same_end end at then after (known at) else known at) client_after server_after
-timers_at Client after client server client_after server_after turn known have =
-    (turn.0 (known Client) have.0, same_timer server server_after turn.1 (known Server) have.1)
-timers_at Server after client server client_after server_after turn known have =
-    (same_timer client client_after turn.1 (known Client) have.0, turn.0 (known Server) have.1)
+module _ {F Q R C K S M P : Type 0} {f : _} {c : _} {q : _} {m : _} {r : _} where
+  -- one endpoint makes a call, the other none
+  pub timers_at : (end : End) (after : Known → Known)
+      (client server client_after server_after : Sender F Q R C K S M P f c q m r)
+      → TurnsAt end (KeepsTimerAs after) client server client_after server_after → (known : End → Known)
+      → AreTimedAs known client server
+      → AreTimedAs (λ at. if same_end end at then after (known at) else known at) client_after server_after
+  timers_at Client after client server client_after server_after turn known have =
+      (turn.0 (known Client) have.0, same_timer server server_after turn.1 (known Server) have.1)
+  timers_at Server after client server client_after server_after turn known have =
+      (same_timer client client_after turn.1 (known Client) have.0, turn.0 (known Server) have.1)
 
--- and it learns nothing by it
-pub timers_still : {F Q R C K S M P : Type 0} {f : _} {c : _} {q : _} {m : _} {r : _} (end : End)
-    (client server client_after server_after : Sender F Q R C K S M P f c q m r)
-    → TurnsAt end KeepsTimer client server client_after server_after → (known : End → Known)
-    → AreTimedAs known client server → AreTimedAs known client_after server_after
-timers_still Client client server client_after server_after turn =
-    timers_at Client (λ known. known) client server client_after server_after turn
-timers_still Server client server client_after server_after turn =
-    timers_at Server (λ known. known) client server client_after server_after turn
+  -- and it learns nothing by it
+  pub timers_still : (end : End)
+      (client server client_after server_after : Sender F Q R C K S M P f c q m r)
+      → TurnsAt end KeepsTimer client server client_after server_after → (known : End → Known)
+      → AreTimedAs known client server → AreTimedAs known client_after server_after
+  timers_still Client client server client_after server_after turn =
+      timers_at Client (λ known. known) client server client_after server_after turn
+  timers_still Server client server client_after server_after turn =
+      timers_at Server (λ known. known) client server client_after server_after turn

@@ -1,11 +1,24 @@
--- A probe after a probe timeout has items, if a packet with items is in flight and no probe had any.
-use Rattle.std.proofs.Common.{[], ◌∷◌, length, length-append, refl, arith}
+-- A probe after a probe timeout has items, if a packet with items is in flight and no probe had any. All were passed.
+use Rattle.std.proofs.Common.{◌≡◌, true, [], ◌∷◌, length, length-append, refl, arith}
+use Rattle.recovery_pair.specs.declared.steps.End.{End}
+use Rattle.recovery_pair.specs.declared.steps.End.TheVariants.{Client, Server}
+use Rattle.recovery_pair.specs.Logs.{same_end}
 use Rattle.recovery_pair.specs.Unprobed.{ProbesUnprobed}
+use Rattle.recovery_pair.proofs.FilledLaws.{here_itself}
+
+same_itself : (end : End) → same_end end end ≡ true
+same_itself Client = refl
+same_itself Server = refl
 
 pub probes_unprobed : ProbesUnprobed
-probes_unprobed validated log end space n now size number items eliciting window ack has keeps none =
-    let first = has.first in
-    let filled = has.filled in
-    let most = keeps.probes.1 (keeps.probes.0 has.asked) none has.keys has.tracks length
-    (record { none = refl; joined = length-append }) (n ∷ []) (has.flies, refl, tt) in
-    omega (arith, first, filled, most)
+probes_unprobed validated log end space n now size number items eliciting window ack has keeps = (
+  λ none. (
+      let first = has.first in
+      let filled = has.filled in
+      let most = keeps.probes.1 (keeps.probes.0 has.asked) none has.keys has.tracks length
+      (record { none = refl; joined = length-append }) (n ∷ []) (has.flies, refl, tt) in
+      omega (arith, first, filled, most)),
+  λ measure adds none. (
+      let zero = rw (same_itself end, here_itself space) at (keeps.passed end measure adds space none) in
+      omega (arith, zero)),
+)

@@ -25,6 +25,7 @@ use Rattle.recovery_pair.specs.declared.steps.PairAnswer.{PairAnswer}
 use Rattle.recovery_pair.specs.declared.steps.PairAnswer.TheVariants.{Done, Expired}
 use Rattle.recovery_pair.specs.Logs.{PairLog, handed, part, sends_of, sent_in}
 use Rattle.recovery_pair.specs.Pasts.{Continues, HasPast}
+use Rattle.recovery_pair.specs.Promises.Passed.{IsAllPassed}
 use Rattle.recovery_pair.specs.Promises.Repeats.{has_failed, is_probe, probed_in}
 use Rattle.recovery_pair.specs.Promises.Resends.{AddsItems, lost_in, lost_of, sum_of}
 use Rattle.recovery_pair.specs.Waits.{waiting_in}
@@ -188,6 +189,12 @@ IsProbeWith true space items (Some one) = (one.0 ≡ space) × ((one.1 ≡ []) �
 IsProbeWith false space items (Some one) = ⊥
 
 module _ {F Q R C K S M : Type 0} {f : _} {c : _} {q : _} {m : _} {r : _} where
+  -- nothing is taken of what was never sent in the space
+  abbrev pub TakesSent : Option (SpaceId × List ℕ) → Sender F Q R C K S M (List ℕ) f c q m r → Type 0
+  TakesSent takes sender = (own : HasPast sender) (measure : List ℕ → ℕ) → AddsContents q.words measure
+      → (space : SpaceId) → ((n : ℕ) → sent_with q.contents measure space n own.past ≡ 0)
+      → amount_of measure space takes ≡ 0
+
   -- these items are passed, this packet is sent, these numbers are declared lost, and a probe may take such items
   pub record MovesItems (hands : Option (SpaceId × List ℕ)) (sends : Option (SpaceId × ℕ × List ℕ))
       (loses : SpaceId → List ℕ) (IsProbed : Option (SpaceId × List ℕ) → Type 0)
@@ -197,6 +204,8 @@ module _ {F Q R C K S M : Type 0} {f : _} {c : _} {q : _} {m : _} {r : _} where
     pub goes : Carries (record { takes = takes; probes = probes; sends = sends; loses = loses }) old.0 new.0
     pub balances : Balances old.1 new.1 hands takes sends
     pub probed : IsProbed probes
+    -- what is taken was sent before
+    pub resent : TakesSent takes old.0
 
   abbrev pub MovesNone : Sender F Q R C K S M (List ℕ) f c q m r × List Waiting
       → Sender F Q R C K S M (List ℕ) f c q m r × List Waiting → Type 0
@@ -241,6 +250,8 @@ module _ {F Q R C K S M : Type 0} {f : _} {c : _} {q : _} {m : _} {r : _} where
     pub probed : (measure : List ℕ → ℕ) → measure [] ≡ 0 → (space : SpaceId) → has_failed end space log ≡ false
         → probed_there q.contents measure space own.past ≤ probed_in end space measure log
     pub adds : (measure : List ℕ → ℕ) → AddsItems measure → AddsContents q.words measure
+    -- only what was passed was sent
+    pub passed : IsAllPassed log end
 
 -- the items that a step passes, and the numbers that it reports as lost
 abbrev pub hands_by : LocalStep → Result PairAnswer SenderError → Option (SpaceId × List ℕ)

@@ -1,6 +1,7 @@
 -- A datagram is sent or held back as the sender says of it (`transmit`; RFC 9000, 8.1; RFC 9002, 7).
-use Rattle.std.specs.Prelude.{◌≡◌, ℕ, ◌+◌, ◌≤◌, Bool, false, Option, None, Some, Result, Ok, if◌then◌else◌}
+use Rattle.std.specs.Prelude.{◌≡◌, ◌⊎◌, ℕ, ◌+◌, ◌≤◌, Bool, false, Option, None, Some, Result, Ok, Err, if◌then◌else◌}
 use Rattle.recovery_base.specs.declared.below.SpaceId.{SpaceId}
+use Rattle.recovery_events.specs.declared.event.Refusal.TheVariants.{NoMemory}
 use Rattle.recovery_losses.specs.Variables.{is_probe_due}
 use Rattle.recovery_spaces.specs.Discarded.{is_discarded}
 use Rattle.recovery_spaces.specs.Spaces.{space_of}
@@ -8,6 +9,7 @@ use Rattle.recovery_sender.specs.Calls.{bytes_in_flight, is_checked, transmit_re
 use Rattle.recovery_sender.specs.Senders.{state_in}
 use Rattle.recovery_sender.specs.declared.sender.Sender.{Sender}
 use Rattle.recovery_sender.specs.declared.sender.SenderError.{SenderError}
+use Rattle.recovery_sender.specs.declared.sender.SenderError.TheVariants.{Event}
 use Rattle.recovery_sender.specs.declared.sender.packets.Transmission.{Transmission}
 use Rattle.recovery_sender.specs.declared.sender.packets.Transmission.TheVariants.{Transmitted}
 use Rattle.recovery_pair.specs.declared.endpoint.Outgoing.{Outgoing}
@@ -20,16 +22,21 @@ use Rattle.recovery_pair.specs.declared.steps.PairStep.{PairStep}
 use Rattle.recovery_pair.specs.declared.steps.PairStep.TheVariants.{Send}
 
 module _ (Idle : Type 0) (in_flight : Bool) (checked : Option ℕ) (said : Result Transmission SenderError) where
+  -- memory ran out, or the sender returned this error for the datagram
+  abbrev pub FailsAsSaid : SenderError → Type 0
+  FailsAsSaid refusal = (refusal ≡ Event NoMemory) ⊎ (said ≡ Err refusal)
+
   -- The sender permits each packet that is sent. The answer reports whether the packet counts in flight, and the window
   -- that was checked. If a datagram is held back, the answer is the reason that the sender reports. There is nothing to
-  -- send, or nothing that counts in flight, only if the sender is idle.
+  -- send, or nothing that counts in flight, only if the sender is idle. There is no other answer.
   abbrev pub AgreesWith : Result PairAnswer SenderError → Type 0
   AgreesWith (Ok (Sent number items eliciting window delay)) =
       (said ≡ Ok Transmitted) × (eliciting ≡ in_flight) × (window ≡ checked) × (in_flight ≡ false → Idle)
   AgreesWith (Ok (Failed refusal)) = said ≡ Ok Transmitted
   AgreesWith (Ok (Held held)) = (said ≡ Ok held) × (held ≡ Transmitted → ⊥)
   AgreesWith (Ok Nothing) = Idle
-  AgreesWith answer = Unit {0}
+  AgreesWith (Ok answer) = ⊥
+  AgreesWith (Err refusal) = FailsAsSaid refusal
 
   -- the answer that an outcome gives, as far as it matters here
   abbrev pub AgreesAlready : Result Outgoing SenderError → Type 0
@@ -38,7 +45,7 @@ module _ (Idle : Type 0) (in_flight : Bool) (checked : Option ℕ) (said : Resul
   AgreesAlready (Ok (outgoing.Failed refusal)) = said ≡ Ok Transmitted
   AgreesAlready (Ok (outgoing.Held held)) = (said ≡ Ok held) × (held ≡ Transmitted → ⊥)
   AgreesAlready (Ok outgoing.Nothing) = Idle
-  AgreesAlready outcome = Unit {0}
+  AgreesAlready (Err refusal) = FailsAsSaid refusal
 
 module _ {F Q R C K S M P : Type 0} {f : _} {c : _} {q : _} {m : _} {r : _} where
   -- what a sender says of a datagram that counts in flight, or not

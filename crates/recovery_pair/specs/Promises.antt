@@ -12,6 +12,7 @@ use Rattle.recovery_pair.specs.Promises.LargestAcked.{AcksLargest}
 use Rattle.recovery_pair.specs.Promises.Locals.{AnswersLocally}
 use Rattle.recovery_pair.specs.Promises.NeverAccused.{NeverAccuses}
 use Rattle.recovery_pair.specs.Promises.Newly.{AcksInFlight}
+use Rattle.recovery_pair.specs.Promises.Passed.{SendsWhatIsPassed}
 use Rattle.recovery_pair.specs.Promises.Probes.{ProbesForFlight}
 use Rattle.recovery_pair.specs.Promises.Repeats.{RepeatsWithCause}
 use Rattle.recovery_pair.specs.Promises.Resends.{ResendsWhatIsLost}
@@ -28,6 +29,7 @@ pub mod LargestAcked
 pub mod Locals
 pub mod NeverAccused
 pub mod Newly
+pub mod Passed
 pub mod Probes
 pub mod Repeats
 pub mod Resends
@@ -68,6 +70,9 @@ pub record KeepsPromises (validated : Bool) (log : PairLog) (event : PairEvent) 
   -- Once an endpoint has nothing to send in a space, it has sent there no less than was passed to it (RFC 9000, 13). By
   -- every measure of the items of a packet.
   pub sends : SendsWhatWaits log event
+  -- Nothing is invented (RFC 9000, 13). An endpoint sends in a space only what was passed to it there. By every measure
+  -- of items that adds up.
+  pub passed : SendsWhatIsPassed (event ∷ log)
   -- Nothing is lost (RFC 9000, 13.3). Once an endpoint has nothing to send in a space with keys, it has sent there what
   -- was passed to it, and once more what it reported as lost. By every measure of items that adds up.
   pub resends : ResendsWhatIsLost log event

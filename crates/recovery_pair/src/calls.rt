@@ -6,7 +6,7 @@ ghost use Rattle.recovery_pair.specs.Expires.{AsksIn, ExpiresBy, expired};
 ghost use Rattle.recovery_pair.specs.Falls.{FindsWithCause};
 ghost use Rattle.recovery_pair.specs.Filled.{KeepsSpaces, RepeatsNone};
 ghost use Rattle.recovery_pair.specs.Flights.{counted_if};
-ghost use Rattle.recovery_pair.specs.Frames.{IsFrameFor};
+ghost use Rattle.recovery_pair.specs.Frames.{FailsFrame, IsFrameFor};
 ghost use Rattle.recovery_losses.specs.Frames.{largest_of};
 ghost use Rattle.recovery_pair.specs.LeastWindows.{IsLeastIf, KeepsLeastWindow, persists_by_ack, persists_by_timeout};
 ghost use Rattle.recovery_pair.specs.Newly.{AcksFlightBy};
@@ -64,8 +64,9 @@ pub(crate) fn frame<F, R>(
 where
     F: ControllerFactory,
     R: Rng + Drop,
-    ensures { IfOk result
-        (λ frame. IsFrameFor space now sender.now frame.ranges.items frame.delay) }
+    ensures { MatchResult result
+        (λ frame. IsFrameFor space now sender.now frame.ranges.items frame.delay)
+        (λ refusal. FailsFrame space sender.now refusal) }
 {
     let Some(here) = sender.recovery().space(space) else {
         return Err(SenderError::Event(Refusal::SpaceDiscarded));

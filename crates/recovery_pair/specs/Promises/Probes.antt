@@ -1,6 +1,6 @@
 -- In the step after a probe timeout its space sends only a probe (RFC 9002, 6.2.4). If an endpoint sends one without
 -- items in a space with keys, its earlier probes there had no fewer items than are in flight, by every measure that
--- adds up. If a packet cannot be tracked, this ends there.
+-- adds up. It holds until a packet of the space cannot be tracked.
 use Rattle.std.specs.Prelude.{◌≡◌, ℕ, ◌<◌, ◌≤◌, ◌&&◌, nat_eq, true, false, List, [], ◌∷◌, Ok}
 use Rattle.std.specs.Set.{is_member}
 use Rattle.recovery_base.specs.declared.below.SpaceId.{SpaceId}

@@ -1,4 +1,4 @@
-use Rattle.std.proofs.Common.{Ok, Err, refl}
+use Rattle.std.proofs.Common.{Ok, Err, inl, refl}
 use Rattle.recovery_events.specs.declared.event.Refusal.TheVariants.{NoMemory}
 use Rattle.recovery_sender.specs.declared.sender.SenderError.TheVariants.{Event}
 use Rattle.recovery_pair.specs.declared.steps.PairAnswer.TheVariants.{Failed, Held, Nothing, Sent}
@@ -121,12 +121,12 @@ returns-in-Ok-Failed-clause-permits g c = permits_at c.args.end c.args.space c.a
 
 pub returns-in-Err-send_from-clause-permits : goal.returns-in-Err-send_from-clause-permits
 returns-in-Err-send_from-clause-permits g c = permits_at c.args.end c.args.space c.args.now c.args.size (Err
-    c.in-Err-send_from.refused) (Err c.in-Err-send_from.refused) _ _ (λ Idle in_flight checked said agrees. tt)
+    c.in-Err-send_from.refused) (Err c.in-Err-send_from.refused) _ _ (λ Idle in_flight checked said agrees. agrees)
     c.in-Err-send_from.ensures.permits
 
 pub returns-in-Err-clause-permits : goal.returns-in-Err-clause-permits
 returns-in-Err-clause-permits g c = permits_none c.args.end c.args.space c.args.now c.args.size (Err (Event NoMemory)) _
-    _ _
+    _ (λ Idle in_flight checked said. inl refl)
 
 pub returns-in-Ok-Sent-clause-timer_set : goal.returns-in-Ok-Sent-clause-timer_set
 returns-in-Ok-Sent-clause-timer_set g c = timers_still c.args.end _ _ _ _ c.in-Ok-Sent.ensures.timer
