@@ -1,7 +1,8 @@
 #!/usr/bin/env python3
 """Tries the wrong bodies crates/NAME/wrong/*.edit: the prover must refuse each, by a goal of the function that it turns. Up to 16 of a crate are
 tried in one check of the functions that they turn. Each other function keeps its contract alone there, since a proof rests on no other function's body.
-If two turn one function, the second turns a copy of it, with its contract and its answers.
+If two turn one function, the second turns a copy of it, with its contract and its answers. Such a function has one copy more, in which nothing is turned:
+if that is not proved, the copies show nothing, and count as not refused.
 
     tests/wrong_bodies.py                         all
     tests/wrong_bodies.py recovery_ids            a crate's
@@ -11,6 +12,7 @@ If two turn one function, the second turns a copy of it, with its contract and i
 Such a file is written as those of must-fail/, behind a line 'fn: queue::CidQueue::next' with the function's name as a check prints it. What the crate
 stands on has to be built (./prove NAME)."""
 import argparse
+import copy
 import pathlib
 import re
 import shutil
@@ -26,6 +28,7 @@ MEMORY_EACH = 3_000_000  # kB, of one check
 MOST_EACH = 16  # wrong bodies in one check: what is refused takes longest, and one check has one processor
 
 VERDICT = re.compile(r"fn (\S+): (proved|not proved|no proof|could not tell)(.*)")
+PROVED = re.compile(r"fn (\S+): (?:proved$|(?:no proof:|not proved;) it calls)")  # proved, but for what it calls
 UNANSWERED = re.compile(r"`search` did not prove ((?:`[^`]+`(?:, | and |,? )?)+)")
 NOTED = re.compile(r"note: src/\S+: it is not proved that .*\(`([^`]+)`\)")  # a goal of the function whose verdict comes next
 ANSWERED = re.compile(r"\./proofs/(\S+)/\w+\.antt:\d+:\d+: error: `([^`]+)`: (.*)")
@@ -51,6 +54,15 @@ class Edit:
             elif word == "new":
                 self.pairs.append((file, old, rest))
 
+    def unturned(self):
+        """The same function with nothing turned."""
+        found = copy.copy(self)
+        found.pairs = [(file, old, old) for file, old, _ in self.pairs]
+        return found
+
+    def turns(self):
+        return any(old != new for _, old, new in self.pairs)
+
     def turn(self, crate):
         """Turns the function in a copy of its crate."""
         for file, old, new in self.pairs:
@@ -72,7 +84,16 @@ def rounds(crate, edits):
         if room is None:
             found.append(room := {})
         room[edit.function] = edit
-    return [dict(part) for it in found for part in dealt(list(it.items()))]
+    return with_unturned([dict(part) for it in found for part in dealt(list(it.items()))])
+
+
+def with_unturned(parts):
+    """Adds for each function that is copied a copy in which nothing is turned, to the smallest check that copies it."""
+    copied = {it.function: it for part in parts for name, it in part.items() if name != it.function}
+    for function, edit in copied.items():
+        least = min((part for part in parts if any(name != it.function == function for name, it in part.items())), key=len)
+        least[f"{function}_unturned"] = edit.unturned()
+    return parts
 
 
 def dealt(edits):
@@ -214,17 +235,22 @@ def refused(crate, said):
 
 
 def try_round(crate, edits):
-    """Each edit with the goals that refuse it, and what is wrong where none does."""
+    """Each edit that turns something with the goals that refuse it, and what is wrong where none does."""
+    wrong = {name: it for name, it in edits.items() if it.turns()}
+    for_all = lambda why: [(it, [], why) for it in wrong.values()]
     try:
         said = checked(crate, edits)
     except (OSError, ValueError) as why:
-        return [(it, [], str(why)) for it in edits.values()]
-    found = refused(crate, said)
+        return for_all(str(why))
+    found, lines = refused(crate, said), said.rstrip().splitlines()
     others = sorted(name for name, goals in found.items() if goals and name not in edits)
     if others:
-        return [(it, [], f"refused is what none of the edits turns: {', '.join(others)}") for it in edits.values()]
-    ends = said.rstrip().splitlines()[-1:]
-    return [(it, found.get(name, []), f"no goal of {name} refuses it; the check ends in {ends}") for name, it in edits.items()]
+        return for_all(f"refused is what none of the edits turns: {', '.join(others)}")
+    proved = {it[1] for it in map(PROVED.match, lines) if it}
+    unproved = [name for name in edits if name not in wrong and (f"{crate}::{name}" not in proved or found.get(name))]
+    if unproved:
+        return for_all(f"not proved is a copy in which nothing is turned: {', '.join(unproved)}")
+    return [(it, found.get(name, []), f"no goal of {name} refuses it; the check ends in {lines[-1:]}") for name, it in wrong.items()]
 
 
 def show(text):
