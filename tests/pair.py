@@ -338,6 +338,16 @@ BAD = {  # a schedule, and what is told of its line that cannot be read
 }
 
 
+def rows(program):
+    """tests/schedules: steps and their answers, worked out by the RFCs as their comments say."""
+    files = sorted((ROOT / "tests" / "schedules").glob("*.txt"))
+    for file in files:
+        steps, answers = zip(*(it.split(" => ") for it in file.read_text().splitlines() if not it.startswith("#")))
+        said = tree.ran([program, "schedule=/dev/stdin"], text=True, input="\n".join(steps))
+        tests.expect(file.stem, said, (0, "".join(f"{it}\n" for it in answers), ""))
+    tests.holds("there are rows", files)
+
+
 def texts(program):
     """The example, by RFC 9002 as its comments say, and what cannot be read."""
     script, answers = (ROOT / "examples" / f"lost-flight.{it}" for it in ("schedule", "out"))
@@ -357,6 +367,7 @@ def main():
     parser.add_argument("--program", default=ROOT / "crates" / "recovery_link" / "out" / "recovery_link")
     parser.add_argument("seeds", nargs="*", type=int, default=[0, 59])
     given = parser.parse_args()
+    rows(given.program)
     texts(given.program)
     with ThreadPoolExecutor(len(os.sched_getaffinity(0))) as pool:
         seeds = range(given.seeds[0], given.seeds[-1] + 1)
