@@ -1,6 +1,6 @@
 #!/usr/bin/env python3
-"""Tries the wrong bodies crates/NAME/wrong/*.edit: the prover must refuse each, by a goal of the function that it turns. Up to 16 of a crate are
-tried in one check of the functions that they turn. Each other function keeps its contract alone there, since a proof rests on no other function's body.
+"""Tries the wrong bodies crates/NAME/wrong/*.edit: the prover must refuse each, by a goal of the function that it turns. Those of a crate are tried in
+one check of the functions that they turn. Each other function keeps its contract alone there, since a proof rests on no other function's body.
 If two turn one function, the second turns a copy of it, with its contract and its answers. Such a function has one copy more, in which nothing is turned:
 if that is not proved, the copies show nothing, and count as not refused.
 
@@ -25,7 +25,6 @@ import tree
 from tree import ROOT
 
 MEMORY_EACH = 3_000_000  # kB, of one check
-MOST_EACH = 16  # wrong bodies in one check: what is refused takes longest, and one check has one processor
 
 VERDICT = re.compile(r"fn (\S+): (proved|not proved|no proof|could not tell)(.*)")
 PROVED = re.compile(r"fn (\S+): (?:proved$|(?:no proof:|not proved;) it calls)")  # proved, but for what it calls
@@ -84,22 +83,9 @@ def rounds(crate, edits):
         if room is None:
             found.append(room := {})
         room[edit.function] = edit
-    return with_unturned([dict(part) for it in found for part in dealt(list(it.items()))])
-
-
-def with_unturned(parts):
-    """Adds for each function that is copied a copy in which nothing is turned, to the smallest check that copies it."""
-    copied = {it.function: it for part in parts for name, it in part.items() if name != it.function}
-    for function, edit in copied.items():
-        least = min((part for part in parts if any(name != it.function == function for name, it in part.items())), key=len)
-        least[f"{function}_unturned"] = edit.unturned()
-    return parts
-
-
-def dealt(edits):
-    """Parts of at most so many, dealt in turn: those of one function, which take about as long, are not in one part."""
-    parts = -(-len(edits) // MOST_EACH)
-    return [edits[at::parts] for at in range(parts)]
+    for edit in [it for name, it in found[0].items() if name != it.function]:
+        found[0][f"{edit.function}_unturned"] = edit.unturned()
+    return [it for it in found if it]
 
 
 def texts(src):
