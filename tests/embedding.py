@@ -12,7 +12,7 @@ PAGE = ROOT / "docs" / "EMBEDDING.md"
 PROGRAM = ROOT / "crates" / "recovery_embedding" / "src"
 SENDER = ROOT / "crates" / "recovery_sender" / "src"
 EVENTS = ROOT / "crates" / "recovery_events" / "src" / "event.rt"
-TESTS = "recovery_parts_tests", "quic_recovery_tests", "recovery_sender_tests", "recovery_embedding"
+TESTS = "recovery_parts_tests", "quic_recovery_tests", "recovery_embedding"
 WITH_EXAMPLES = set("""Dedup PendingAcks RttEstimator Pacer NewRenoConfig CubicConfig MtuDiscovery CidQueue CidState PacketNumberFilter SentPackets ItemQueue
     LiveRecovery Sender""".split())
 COMMENT = re.compile(r"((?:^///[^\n]*\n)+)(?:^#\[[^\n]*\n)*^pub (?:struct|enum|trait|fn) (\w+)", re.M)

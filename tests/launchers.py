@@ -247,7 +247,7 @@ def launched(place, name, crate):
     tests.expect(f"{name}: an up-to-date program", ran(), proved)
     for word in "--help", "--version", "anything":
         tests.expect(f"{name} {word}, handed on", place.ran(f"./{name}", word), (3, f"the program ran: {word}\n", ""))
-    for path in "crates/recovery_replay_tests/src/lines.rt", "crates.txt", "README.md", "examples/acks.txt":
+    for path in "crates/quic_recovery_tests/src/lines.rt", "crates.txt", "README.md", "examples/acks.txt":
         touch(place.root / path, 20)
     tests.expect(f"{name}: newer tests", ran(), proved)
     status, output, said = tree.ran([place.root / name, *words], **{**place.how(), "cwd": "/"})

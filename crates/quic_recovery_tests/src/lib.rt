@@ -1,4 +1,5 @@
-//! Tests of the driver, and of the spaces and paths below it, over their public calls.
+//! Tests of the driver, of the spaces and paths below it, of the lines of scripts, and of the sender, over their public
+//! calls.
 #![tactic(auto)]
 
 #[cfg(test)]
@@ -6,4 +7,8 @@ mod driver;
 #[cfg(test)]
 mod ledger;
 #[cfg(test)]
+mod lines;
+#[cfg(test)]
 mod paths;
+#[cfg(test)]
+mod sender;

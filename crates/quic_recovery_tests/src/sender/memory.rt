@@ -1,6 +1,6 @@
 //! Allocation fails for packets that are lost: these are still tracked, and the next pass, or the same call, continues
 //! with them. The answers are computed by hand.
-use crate::failing::FailingQueue;
+use crate::sender::failing::FailingQueue;
 use quic_recovery_rows::config::{settings, words};
 use quic_recovery_rows::events::at;
 use rand_pcg::Pcg32;
