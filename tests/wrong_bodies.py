@@ -2,15 +2,16 @@
 """Tries the wrong bodies crates/NAME/wrong/*.edit: the prover must refuse each, by a goal of the function that it turns. Those of a crate are tried in
 one check of the functions that they turn. Each other function keeps its contract alone there, since a proof rests on no other function's body.
 If two turn one function, the second turns a copy of it, with its contract and its answers. Such a function has one copy more, in which nothing is turned:
-if that is not proved, the copies show nothing, and count as not refused.
+if that is not proved, the copies show nothing, and count as not refused. A line 'goal: NAME' says by which goal a body must be refused: then the answers
+to the function's other goals are set aside, and so are the goals that a line 'also: NAME, NAME' lists, on which a search would take its time.
 
     tests/wrong_bodies.py                         all
     tests/wrong_bodies.py recovery_ids            a crate's
     tests/wrong_bodies.py recovery_ids next__     those of its wrong bodies whose names begin so
     tests/wrong_bodies.py --goals recovery_ids    says of each by which goals it is refused
 
-Such a file is written as those of must-fail/, behind a line 'fn: queue::CidQueue::next' with the function's name as a check prints it. What the crate
-stands on has to be built (./prove NAME)."""
+Such a file is written as those of must-fail/, behind a line 'fn: queue::CidQueue::next' with the function's name as a check prints it, and perhaps one with
+its goal. What the crate stands on has to be built (./prove NAME)."""
 import argparse
 import copy
 import pathlib
@@ -42,10 +43,14 @@ class Edit:
     """A wrong body: the function that it turns, and in which file what stands in place of what."""
 
     def __init__(self, path):
-        self.name, self.function, self.pairs, file, old = path.stem, None, [], None, None
+        self.name, self.function, self.goal, self.also, self.pairs, file, old = path.stem, None, None, [], [], None, None
         for word, _, rest in (line.partition(": ") for line in path.read_text().splitlines()):
             if word == "fn":
                 self.function = rest
+            elif word == "goal":
+                self.goal = rest
+            elif word == "also":
+                self.also = rest.split(", ")
             elif word == "file":
                 file = rest
             elif word == "old":
@@ -56,7 +61,7 @@ class Edit:
     def unturned(self):
         """The same function with nothing turned."""
         found = copy.copy(self)
-        found.pairs = [(file, old, old) for file, old, _ in self.pairs]
+        found.goal, found.pairs = None, [(file, old, old) for file, old, _ in self.pairs]
         return found
 
     def turns(self):
@@ -158,6 +163,23 @@ def copy_function(crate, to, edit, name):
             it.write_text(it.read_text().replace(f".proofs.{'.'.join([*owner, own])}.", f".proofs.{'.'.join([*owner, new])}."))
 
 
+def answer_alone(crate, folder, name, edit):
+    """Leaves of the answers of a function the one to the goal of an edit, and those that it names."""
+    file = folder / "proofs" / pathlib.Path(*name.split("::")) / "Answers.antt"
+    uses = f"use Rattle.{crate}.proofs.{name.replace('::', '.')}.Goals as goal\n\n"
+    first, *blocks = re.split(r"^(?=pub [^\n]+ : goal\.)", file.read_text() if file.exists() else uses, flags=re.M)
+    answers = {block.split()[1]: block for block in blocks}
+    wanted, kept = [edit.goal], {}
+    while wanted:
+        goal = wanted.pop()
+        if goal in answers and goal not in kept:
+            kept[goal] = answers[goal]
+            wanted += [it for it in answers if re.search(rf"(?<![\w.-]){re.escape(it)}(?![\w-])", answers[goal])]
+    aside = {goal: f"pub {goal} : goal.{goal}\n{goal} g c = set_aside\n\n" for goal in [*answers, *edit.also]}
+    file.parent.mkdir(parents=True, exist_ok=True)
+    file.write_text(first + "".join({**aside, **kept}.values()))
+
+
 def set_aside(crate, folder, kept):
     """Leaves all functions but those that are kept no more than their contracts: a body that never ends, and for its proof a name that is nowhere."""
     files = [*texts(folder / "src")]
@@ -193,6 +215,9 @@ def checked(crate, edits):
                 it.turn(pathlib.Path(folder))
             else:
                 copy_function(ROOT / "crates" / crate, pathlib.Path(folder), it, name)
+        for name, it in edits.items():
+            if it.goal:
+                answer_alone(crate, pathlib.Path(folder), name, it)
         set_aside(crate, pathlib.Path(folder), edits)
         only = [word for it in edits for word in ("--only", f"{crate}::{it}")]
         words = [tree.kit() / "bin" / "rattle", "check", "--short-goals", *tree.words_of(crate), *only]
@@ -236,7 +261,9 @@ def try_round(crate, edits):
     unproved = [name for name in edits if name not in wrong and (f"{crate}::{name}" not in proved or found.get(name))]
     if unproved:
         return for_all(f"not proved is a copy in which nothing is turned: {', '.join(unproved)}")
-    return [(it, found.get(name, []), f"no goal of {name} refuses it; the check ends in {lines[-1:]}") for name, it in wrong.items()]
+    refusing = lambda name, it: [goal for goal in found.get(name, []) if it.goal in (None, goal)]
+    why = lambda name, it: f"{name} is not refused by {it.goal or 'any goal'}; the check ends in {lines[-1:]}"
+    return [(it, refusing(name, it), why(name, it)) for name, it in wrong.items()]
 
 
 def show(text):
