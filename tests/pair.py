@@ -55,6 +55,11 @@ class Packet:
         self.key, self.items, self.size, self.elicits, self.outcome = key, items, size, elicits, None
 
 
+def is_probe(said):
+    """A packet counts in flight, and no window was checked for it."""
+    return "ack-only" not in said and "window" not in said
+
+
 class World:
     """What the steps and answers so far say."""
 
@@ -63,13 +68,17 @@ class World:
         self.handed, self.delivered = collections.defaultdict(list), collections.defaultdict(list)
         self.came, self.went, self.validated = collections.Counter(), collections.Counter(), set()
         self.due, self.windows, self.heard_at = collections.Counter(), collections.Counter(), {}
+        self.asked = None  # the endpoint and space that the last step asked for probes
 
     def take(self, step, answer):
         words, said = step.split(), answer.split()
+        asked, self.asked = self.asked, None
         taken = {"hand": self.hand, "send": self.send, "arrive": self.arrive, "expire": self.expire, "discard": self.discard}
         if said[0] in ("refused", "failed"):
             holds("a step is refused only for a discarded space", said[2:] == ["SpaceDiscarded"] and tuple(words[1:3]) in self.discarded)
             return
+        if words[0] == "send" and asked == (words[1], words[2]):
+            holds("the step after a probe timeout sends a probe, or is blocked", said == ["blocked"] or said[0] == "sent" and is_probe(said))
         if words[0] == "validated":
             self.validated.add(words[1])
         elif words[0] in taken:
@@ -119,7 +128,7 @@ class World:
             window = int(said[said.index("window") + 1])
             holds("what counts is sent only if the window has room", self.flight(end) + packet.size <= window)
             self.windows[end] = max(window, self.windows[end])
-        packet.is_probe = packet.elicits and "window" not in said
+        packet.is_probe = is_probe(said)
         if packet.is_probe:
             holds("only probes are not checked", self.due[packet.key[:2]] > 0)
         probes = sum(it.size for it in [*self.packets.values(), packet] if it.key[0] == end and it.is_probe and not it.outcome)
@@ -207,6 +216,7 @@ class World:
     def expire(self, words, said):
         if said[0] == "probe":
             self.due[words[0], said[1]] = int(said[2])
+            self.asked = words[0], said[1]
         elif said[0] == "lost":
             self.lost(words[0], said[1], said[2:])
 

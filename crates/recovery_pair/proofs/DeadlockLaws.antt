@@ -1,6 +1,6 @@
 -- No deadlock: while bytes are in flight, the timer is set; and the window holds a datagram back only then. Both are
 -- never stuck.
-use Rattle.std.proofs.Common.{◌≡◌, ◌≢◌, ℕ, ◌+◌, ◌*◌, ◌<◌, ◌≤◌, ◌==◌, ◌⊎◌, inl, inr, ◌&&◌, ◌||◌, Bool, true, false, List, [], ◌∷◌, Option, None, Some, Result, Ok, Err, nat_lt, refl, sym, ap, subst, ◌∙◌, arith, true≢false}
+use Rattle.std.proofs.Common.{◌≡◌, ℕ, ◌+◌, ◌*◌, ◌<◌, ◌≤◌, ◌==◌, ◌⊎◌, inl, inr, ◌&&◌, ◌||◌, Bool, true, false, List, [], ◌∷◌, Option, None, Some, Result, Ok, nat_lt, refl, sym, ap, subst, ◌∙◌, arith, true≢false}
 use Rattle.std.proofs.lemmas.Bool.{cases_lt}
 use Rattle.std.proofs.lemmas.Option.{none-some}
 use Rattle.std.proofs.lemmas.Bool.Decides.{nat_tests}
@@ -34,14 +34,14 @@ use Rattle.recovery_history.proofs.OneOutcomeLaws.{have_one_fate}
 use Rattle.recovery_history.proofs.RejectionsLaws.{refuses_rightly}
 use Rattle.recovery_history.proofs.Runs.{kept_after}
 use Rattle.recovery_history.proofs.TrackedLaws.{one_space}
-use Rattle.recovery_sender.specs.Calls.{bytes_in_flight, is_checked, is_full, paced_to, transmit_reply, window_of}
+use Rattle.recovery_sender.specs.Calls.{bytes_in_flight, is_checked, is_full, transmit_reply, window_of}
 use Rattle.recovery_sender.specs.Promises.Liveness.{IsOutstanding, IsTimerByEvents, deadlock_space_by, may_send}
 use Rattle.recovery_sender.specs.Promises.Lost.{elicits_by}
 use Rattle.recovery_sender.specs.Senders.{state_in}
 use Rattle.recovery_sender.specs.declared.sender.Sender.{Sender}
 use Rattle.recovery_sender.specs.declared.sender.SenderError.{SenderError}
 use Rattle.recovery_sender.specs.declared.sender.packets.Transmission.{Transmission}
-use Rattle.recovery_sender.specs.declared.sender.packets.Transmission.TheVariants.{Blocked, Full, Transmitted}
+use Rattle.recovery_sender.specs.declared.sender.packets.Transmission.TheVariants.{Blocked, Full}
 use Rattle.recovery_pair.specs.declared.endpoint.Waiting.{Waiting}
 use Rattle.recovery_pair.specs.declared.steps.End.{End}
 use Rattle.recovery_pair.specs.declared.steps.End.TheVariants.{Client, Server}
@@ -62,6 +62,7 @@ use Rattle.recovery_pair.specs.Timed.{AreTimedAs, IsTimedAs, KeepsTimers}
 use Rattle.recovery_pair.specs.Turns.{TurnsAt}
 use Rattle.recovery_pair.proofs.FlightLaws.{flight_sum, or_left, or_right}
 use Rattle.recovery_pair.proofs.KnownLaws.{cause_kept, client_validated, or_cases}
+use Rattle.recovery_pair.proofs.PermitLaws.{said_blocked, said_full}
 
 -- ---- tests
 
@@ -281,32 +282,6 @@ module _ {Q S M P : Type 0} where
 free_of : (validated : Bool) (came went bytes : ℕ) → validated ≡ true
     → (not validated && nat_lt (3 * came) (went + bytes)) ≡ false
 free_of validated came went bytes is = rw is refl
-
-module _ (first second : SenderError) where
-  abbrev said_of : (discarded room blocked checked full : Bool) (delay : Option ℕ) → Result Transmission SenderError
-  said_of discarded room blocked checked full delay = if discarded then Err first
-      else if room then Ok (if blocked then Blocked else if checked then (if full then Full else paced_to delay)
-      else Transmitted) else Err second
-
-  said_blocked : (discarded room blocked checked full : Bool) (delay : Option ℕ)
-      → said_of discarded room blocked checked full delay ≡ Ok Blocked → blocked ≡ true
-  said_blocked true room blocked checked full delay is = absurd cc
-  said_blocked false false blocked checked full delay is = absurd cc
-  said_blocked false true true checked full delay is = refl
-  said_blocked false true false false full delay is = absurd cc
-  said_blocked false true false true true delay is = absurd cc
-  said_blocked false true false true false None is = absurd cc
-  said_blocked false true false true false (Some until) is = absurd cc
-
-  said_full : (discarded room blocked checked full : Bool) (delay : Option ℕ)
-      → said_of discarded room blocked checked full delay ≡ Ok Full → full ≡ true
-  said_full true room blocked checked full delay is = absurd cc
-  said_full false false blocked checked full delay is = absurd cc
-  said_full false true true checked full delay is = absurd cc
-  said_full false true false false full delay is = absurd cc
-  said_full false true false true true delay is = refl
-  said_full false true false true false None is = absurd cc
-  said_full false true false true false (Some until) is = absurd cc
 
 module _ {F Q R C K S M P : Type 0} {f : _} {c : _} {q : _} {m : _} {r : _} (sender : Sender F Q R C K S M P f c q m r)
     (own : HasPast sender) where

@@ -1,19 +1,22 @@
--- Worked rows of what is sent again, computed: with the right log each promise holds, and with a wrong one it does not.
--- Nothing rests on them.
-use Rattle.std.proofs.Common.{◌≡◌, ℕ, true, true≢false, [], ◌∷◌, length, Option, None, Some, Ok, refl, arith}
+-- Worked rows of what is sent again and of probes, computed: with the right log each promise holds, and with a wrong
+-- one it does not. Nothing rests on them.
+use Rattle.std.proofs.Common.{◌≡◌, ℕ, true, false, true≢false, [], ◌∷◌, length, Option, None, Some, Ok, refl, sym, arith}
 use Rattle.std.proofs.lemmas.List.{length-append}
 use Rattle.std.specs.Global.{Vec}
 use Rattle.recovery_base.specs.declared.below.SpaceId.TheVariants.{Data, Initial}
 use Rattle.recovery_sender.specs.declared.sender.SenderError.{SenderError}
 use Rattle.recovery_sender.specs.declared.sender.losses.Losses.{Losses}
-use Rattle.recovery_sender.specs.declared.sender.probes.Timeout.TheVariants.{Lost}
+use Rattle.recovery_sender.specs.declared.sender.packets.Transmission.{Transmission}
+use Rattle.recovery_sender.specs.declared.sender.packets.Transmission.TheVariants.{Blocked, Delayed, Full}
+use Rattle.recovery_sender.specs.declared.sender.probes.Timeout.TheVariants.{Lost, Probe}
 use Rattle.recovery_pair.proofs.PairRows.{no_frame}
 use Rattle.recovery_pair.specs.declared.steps.End.TheVariants.{Client, Server}
 use Rattle.recovery_pair.specs.declared.steps.LocalStep.TheVariants.{Discard, Expire, Hand}
-use Rattle.recovery_pair.specs.declared.steps.PairAnswer.TheVariants.{Done, Expired, Failed, Nothing, Sent}
+use Rattle.recovery_pair.specs.declared.steps.PairAnswer.TheVariants.{Done, Expired, Failed, Held, Nothing, Sent}
 use Rattle.recovery_pair.specs.declared.steps.PairStep.TheVariants.{Local, Send}
 use Rattle.recovery_pair.specs.Logs.{PairEvent, PairLog}
 use Rattle.recovery_pair.specs.Promises.Passed.{SendsWhatIsPassed}
+use Rattle.recovery_pair.specs.Promises.Probes.{ProbesForFlight}
 use Rattle.recovery_pair.specs.Promises.Repeats.{RepeatsWithCause, probed_in}
 use Rattle.recovery_pair.specs.Promises.Resends.{AddsItems, ResendsWhatIsLost, lost_in}
 
@@ -141,3 +144,41 @@ module _ (items : Vec ℕ) where
   not_after_a_failure refusal Client Data tracks measure adds = absurd (true≢false tracks)
   not_after_a_failure refusal Client space tracks measure adds = omega arith
   not_after_a_failure refusal Server space tracks measure adds = omega arith
+
+-- ---- probes that are asked for
+
+-- the client's timer expires, and asks for probes
+abbrev asks : PairLog
+asks = (Local Client (Expire 9), Ok (Expired (Probe Data 2))) ∷ []
+
+abbrev held_back : Transmission → PairEvent
+held_back held = (Send Client Data 10 60, Ok (Held held))
+
+the_limit_may_block_it : ProbesForFlight asks (held_back Blocked)
+the_limit_may_block_it asked = refl
+
+the_window_may_not : ¬ ProbesForFlight asks (held_back Full)
+the_window_may_not probes = absurd (let blocked = probes refl in cc)
+
+nor_the_pacer : (until : ℕ) → ¬ ProbesForFlight asks (held_back (Delayed until))
+nor_the_pacer until probes = absurd (let blocked = probes refl in cc)
+
+there_is_something_to_send : ¬ ProbesForFlight asks (Send Client Data 10 60, Ok Nothing)
+there_is_something_to_send probes = absurd (probes refl refl)
+
+not_in_the_other_space : ProbesForFlight asks (Send Client Initial 10 60, Ok Nothing)
+not_in_the_other_space asked keys = absurd (true≢false (sym asked))
+
+nor_at_the_server : ProbesForFlight asks (Send Server Data 10 60, Ok (Held Full))
+nor_at_the_server asked = absurd (true≢false (sym asked))
+
+module _ (items : Vec ℕ) where
+  a_probe_is_sent : ¬ (items.items ≡ [])
+      → ProbesForFlight asks (Send Client Data 10 60, Ok (Sent 1 items true None no_frame))
+  a_probe_is_sent some = (λ asked. refl, λ probe none. absurd (some none))
+
+  not_for_a_window : ¬ ProbesForFlight asks (Send Client Data 10 60, Ok (Sent 1 items true (Some 1500) no_frame))
+  not_for_a_window probes = true≢false (sym (probes.0 refl))
+
+  not_an_ack_alone : ¬ ProbesForFlight asks (Send Client Data 10 60, Ok (Sent 1 items false None no_frame))
+  not_an_ack_alone probes = true≢false (sym (probes.0 refl))

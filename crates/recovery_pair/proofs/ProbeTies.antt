@@ -25,23 +25,25 @@ use Rattle.recovery_pair.specs.declared.steps.End.{End}
 use Rattle.recovery_pair.specs.declared.steps.End.TheVariants.{Client, Server}
 use Rattle.recovery_pair.specs.declared.steps.LocalStep.TheVariants.{Expire}
 use Rattle.recovery_pair.specs.declared.steps.PairAnswer.{PairAnswer}
-use Rattle.recovery_pair.specs.declared.steps.PairAnswer.TheVariants.{Expired, Sent}
+use Rattle.recovery_pair.specs.declared.steps.PairAnswer.TheVariants.{Expired, Held, Nothing, Sent}
 use Rattle.recovery_pair.specs.declared.steps.PairStep.{PairStep}
 use Rattle.recovery_pair.specs.declared.steps.PairStep.TheVariants.{Local, Send}
 use Rattle.recovery_pair.specs.declared.steps.WirePacket.{WirePacket}
 use Rattle.recovery_pair.specs.Carried.{CarriesItems, all_sent_with, sent_with}
 use Rattle.recovery_pair.specs.Expires.{AsksAt}
-use Rattle.recovery_pair.specs.Filled.{AtEnd, CarryNone, FillsProbes, IsProbeIfDue, RepeatsNone}
+use Rattle.recovery_pair.specs.Filled.{AtEnd, CarryNone, FillsProbes, RepeatsNone}
 use Rattle.recovery_pair.specs.Logs.{PairLog, was_discarded}
 use Rattle.recovery_pair.specs.Pasts.{HasPast}
+use Rattle.recovery_pair.specs.Permits.{IsIdle, SendsAsPermitted}
 use Rattle.recovery_pair.specs.Promises.Newly.{all_but, flight_of_one}
-use Rattle.recovery_pair.specs.Promises.Probes.{AreInFlight, ProbesForFlight}
+use Rattle.recovery_pair.specs.Promises.Probes.{AreInFlight, IsAsked, ProbesForFlight}
 use Rattle.recovery_pair.specs.Promises.Repeats.{has_failed, probed_in}
 use Rattle.recovery_pair.specs.Promises.Resends.{AddsItems, sent_under}
 use Rattle.recovery_pair.specs.Tied.{AsksProbes, IsLogged, IsTied}
 use Rattle.recovery_pair.proofs.AlongLaws.{beginning_of}
 use Rattle.recovery_pair.proofs.ItemTies.{under_past}
 use Rattle.recovery_pair.proofs.NewlyLaws.{flight_tracked}
+use Rattle.recovery_pair.proofs.PermitLaws.{held_if_due, sent_if_due}
 use Rattle.recovery_pair.proofs.RepeatLaws.{repeats_lost}
 use Rattle.recovery_pair.proofs.RequeueLaws.{owed, owed_lost, owes_now}
 
@@ -144,31 +146,45 @@ module _ {F Q R C K S M : Type 0} {f : _} {c : _} {q : _} {m : _} {r : _} where
         let probed = carried.probed measure adds.none space tracks in
         omega (arith, owes, waits, same, least, under, empty, most, probed)
 
-  -- a step of either
-  abbrev pub SendsProbes : PairStep → Result PairAnswer SenderError → Sender F Q R C K S M (List ℕ) f c q m r
-      → Sender F Q R C K S M (List ℕ) f c q m r → Type 0
-  SendsProbes (Send end space now size) (Ok (Sent number items eliciting window ack)) =
-      AtEnd end (IsProbeIfDue space eliciting window)
-  SendsProbes step answer = λ client server. Unit {0}
+  -- what is idle has no probe that is asked for
+  not_asked : (validated : Bool) (log : PairLog) (end : End) (space : SpaceId)
+      (sender : Sender F Q R C K S M (List ℕ) f c q m r) (own : HasPast sender)
+      → IsLogged validated log end own.config.validated own.past → AsksProbes log end sender → IsIdle sender space
+      → IsAsked log end space → was_discarded end space log ≡ false → ⊥
+  not_asked validated log end space sender own logged asks idle asked keys = true≢false
+      (sym (asks space asked)
+      ∙ (idle (own.came.state_after.discarded space ∙ logged.discarded space ∙ keys)).0)
 
   pub probes_kept : (client server : Sender F Q R C K S M (List ℕ) f c q m r) (wire : List WirePacket)
       (client_waits server_waits : List Waiting) (step : PairStep) (answer : Result PairAnswer SenderError)
-      → FillsProbes step answer (client, client_waits) (server, server_waits) → SendsProbes step answer client server
-      → (validated : Bool) (log : PairLog) → IsTied validated log client server wire client_waits server_waits
-      → ProbesForFlight log (step, answer)
+      → FillsProbes step answer (client, client_waits) (server, server_waits)
+      → SendsAsPermitted step answer client server → (validated : Bool) (log : PairLog)
+      → IsTied validated log client server wire client_waits server_waits → ProbesForFlight log (step, answer)
   probes_kept client server wire client_waits server_waits (Send Client space now size)
-      (Ok (Sent number items eliciting window ack)) fills probes validated log tied = (
-        λ asked. probes (tied.own_asked space asked),
+      (Ok (Sent number items eliciting window ack)) fills permits validated log tied = (
+        λ asked. sent_if_due space now size client (tied.own_asked space asked) number items eliciting window ack
+            permits,
         λ on none keys tracks. probes_before validated log Client (client, client_waits) tied.ends.own
             tied.ends.logged tied.own_items space (fills on none tied.ends.own).0 keys tracks,
       )
   probes_kept client server wire client_waits server_waits (Send Server space now size)
-      (Ok (Sent number items eliciting window ack)) fills probes validated log tied = (
-        λ asked. probes (tied.peer_asked space asked),
+      (Ok (Sent number items eliciting window ack)) fills permits validated log tied = (
+        λ asked. sent_if_due space now size server (tied.peer_asked space asked) number items eliciting window ack
+            permits,
         λ on none keys tracks. probes_before validated log Server (server, server_waits) tied.ends.peer
             tied.ends.peer_logged tied.peer_items space (fills on none tied.ends.peer).0 keys tracks,
       )
-  probes_kept client server wire client_waits server_waits step answer fills probes validated log tied = tt
+  probes_kept client server wire client_waits server_waits (Send Client space now size) (Ok (Held held)) fills permits
+      validated log tied = λ asked. held_if_due space now size client (tied.own_asked space asked) held permits
+  probes_kept client server wire client_waits server_waits (Send Server space now size) (Ok (Held held)) fills permits
+      validated log tied = λ asked. held_if_due space now size server (tied.peer_asked space asked) held permits
+  probes_kept client server wire client_waits server_waits (Send Client space now size) (Ok Nothing) fills permits
+      validated log tied =
+      not_asked validated log Client space client tied.ends.own tied.ends.logged tied.own_asked permits.1
+  probes_kept client server wire client_waits server_waits (Send Server space now size) (Ok Nothing) fills permits
+      validated log tied =
+      not_asked validated log Server space server tied.ends.peer tied.ends.peer_logged tied.peer_asked permits.1
+  probes_kept client server wire client_waits server_waits step answer fills permits validated log tied = tt
 
   -- what a step asks for
   abbrev pub AsksAfter : PairStep → Result PairAnswer SenderError → Sender F Q R C K S M (List ℕ) f c q m r

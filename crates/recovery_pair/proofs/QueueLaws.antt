@@ -19,6 +19,7 @@ use Rattle.recovery_pair.specs.declared.steps.PairStep.TheVariants.{Local, Send}
 use Rattle.recovery_pair.specs.declared.steps.WirePacket.{WirePacket}
 use Rattle.recovery_pair.specs.Filled.{FillsProbes}
 use Rattle.recovery_pair.specs.Logs.{PairEvent, PairLog, handed, other_end, part, sent_in}
+use Rattle.recovery_pair.specs.Permits.{SendsAsPermitted}
 use Rattle.recovery_pair.specs.Promises.Passed.{IsAllPassed}
 use Rattle.recovery_pair.specs.Promises.Locals.{AnswersLocally, IsLocalAnswer}
 use Rattle.recovery_pair.specs.Promises.Sends.{SendsWhatWaits}
@@ -27,7 +28,7 @@ use Rattle.recovery_pair.specs.Turns.{TurnsAt}
 use Rattle.recovery_pair.specs.Waits.{AreQueued, LocalWaits, LosesNone, LosesOne, waiting_in}
 use Rattle.recovery_pair.proofs.ItemTies.{ItemsKept, at_each, repeats_with_cause}
 use Rattle.recovery_pair.proofs.LogLaws.{IsNoPacket}
-use Rattle.recovery_pair.proofs.ProbeTies.{AsksAfter, SendsProbes, asked_kept, probes_kept}
+use Rattle.recovery_pair.proofs.ProbeTies.{AsksAfter, asked_kept, probes_kept}
 use Rattle.recovery_pair.proofs.StepTies.{ExchangeKept}
 use Rattle.recovery_pair.proofs.WaitLaws.{none_lost}
 
@@ -99,7 +100,7 @@ pub step_keeps : {F Q R C K S M : Type 0} {f : _} {c : _} {q : _} {m : _} {r : _
     (client_waits server_waits client_waits_after server_waits_after : List Waiting) (step : PairStep)
     (answer : Result PairAnswer SenderError)
     → ExchangeKept client server wire step answer client_after server_after wire_after → AnswersLocally (step, answer)
-    → FillsProbes step answer (client, client_waits) (server, server_waits) → SendsProbes step answer client server
+    → FillsProbes step answer (client, client_waits) (server, server_waits) → SendsAsPermitted step answer client server
     → AsksAfter step answer client_after server_after
     → QueueKept client_waits server_waits step answer client_waits_after server_waits_after
     → ItemsKept (client, client_waits) (server, server_waits) step answer (client_after, client_waits_after)
@@ -107,7 +108,7 @@ pub step_keeps : {F Q R C K S M : Type 0} {f : _} {c : _} {q : _} {m : _} {r : _
     → StepKeeps client server wire client_waits server_waits step answer client_after server_after wire_after
     client_waits_after server_waits_after
 step_keeps client server client_after server_after wire wire_after client_waits server_waits client_waits_after
-    server_waits_after step answer exchange local fills probes asks queue items validated log tied =
+    server_waits_after step answer exchange local fills permits asks queue items validated log tied =
     let both = exchange validated log tied.ends in
     let one = both.0 in
     let two = queue log tied.own_waits tied.peer_waits in
@@ -133,7 +134,7 @@ step_keeps client server client_after server_after wire wire_after client_waits 
           passed = at_each (IsAllPassed ((step, answer) ∷ log)) three.1.passed three.2.passed;
           repeats = repeats_with_cause ((step, answer) ∷ log) (client_after, client_waits_after)
               (server_after, server_waits_after) three.1 three.2;
-          probes = probes_kept client server wire client_waits server_waits step answer fills probes
+          probes = probes_kept client server wire client_waits server_waits step answer fills permits
               validated log tied;
           local = local;
         },

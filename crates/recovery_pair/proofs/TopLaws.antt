@@ -1,5 +1,5 @@
 -- The largest number that was received is still to be acknowledged: what keeps it so, event by event.
-use Rattle.std.proofs.Common.{◌≡◌, ℕ, ◌<◌, ◌≤◌, ◌⊎◌, inl, inr, ◌==◌, ◌&&◌, nat_lt, Bool, true, false, true≢false, cond, List, [], ◌∷◌, length, Option, None, Some, Ok, Err, IfSome, IsSomeAnd, refl, sym, subst, arith}
+use Rattle.std.proofs.Common.{◌≡◌, ℕ, ◌<◌, ◌≤◌, ◌⊎◌, inl, inr, ◌==◌, ◌&&◌, nat_lt, Bool, true, false, true≢false, cond, [], ◌∷◌, Option, None, Some, Ok, IfSome, IsSomeAnd, refl, sym, subst, arith}
 use Rattle.std.specs.Prelude.{if◌then◌else◌}
 use Rattle.std.proofs.lemmas.Bool.Decides.{nat_tests}
 use Rattle.recovery_acks.specs.Acks.{largest_with, most_ranges}

@@ -1,7 +1,9 @@
--- A probe after a probe timeout has items, if a packet with items is in flight and no probe had any. All were passed.
-use Rattle.std.proofs.Common.{◌≡◌, true, [], ◌∷◌, length, length-append, refl, arith}
+-- The step after a probe timeout sends items, if a packet with items is in flight and no probe had any. All were
+-- passed.
+use Rattle.std.proofs.Common.{◌≡◌, true, [], ◌∷◌, length, length-append, Ok, refl, arith}
 use Rattle.recovery_pair.specs.declared.steps.End.{End}
 use Rattle.recovery_pair.specs.declared.steps.End.TheVariants.{Client, Server}
+use Rattle.recovery_pair.specs.declared.steps.PairAnswer.TheVariants.{Held, Nothing, Sent}
 use Rattle.recovery_pair.specs.Logs.{same_end}
 use Rattle.recovery_pair.specs.Unprobed.{ProbesUnprobed}
 use Rattle.recovery_pair.proofs.FilledLaws.{here_itself}
@@ -11,7 +13,7 @@ same_itself Client = refl
 same_itself Server = refl
 
 pub probes_unprobed : ProbesUnprobed
-probes_unprobed validated log end space n now size number items eliciting window ack has keeps = (
+probes_unprobed validated log end space n now size (Ok (Sent number items eliciting window ack)) has keeps = (
   λ none. (
       let first = has.first in
       let filled = has.filled in
@@ -22,3 +24,6 @@ probes_unprobed validated log end space n now size number items eliciting window
       let zero = rw (same_itself end, here_itself space) at (keeps.passed end measure adds space none) in
       omega (arith, zero)),
 )
+probes_unprobed validated log end space n now size (Ok (Held held)) has keeps = keeps.probes has.asked
+probes_unprobed validated log end space n now size (Ok Nothing) has keeps = keeps.probes has.asked has.keys
+probes_unprobed validated log end space n now size answer has keeps = tt

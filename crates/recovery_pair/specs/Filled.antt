@@ -3,14 +3,12 @@
 use Rattle.std.specs.Prelude.{◌≡◌, ℕ, Bool, true, List, [], ◌∷◌, get_or, Option, None, Some, Result, Ok, if◌then◌else◌}
 use Rattle.recovery_base.specs.declared.below.SpaceId.{SpaceId}
 use Rattle.recovery_base.specs.Spaces.{same_space}
-use Rattle.recovery_losses.specs.Variables.{is_probe_due}
 use Rattle.recovery_spaces.specs.Packets.{Packets}
 use Rattle.recovery_spaces.specs.Spaces.{packets_of, space_of}
 use Rattle.recovery_sender.specs.Senders.{state_in}
 use Rattle.recovery_sender.specs.declared.sender.Sender.{Sender}
 use Rattle.recovery_sender.specs.declared.sender.SenderError.{SenderError}
 use Rattle.recovery_pair.specs.declared.endpoint.Outgoing.{Outgoing}
-use Rattle.recovery_pair.specs.declared.endpoint.Outgoing.TheVariants as outgoing
 use Rattle.recovery_pair.specs.declared.endpoint.Waiting.{Waiting}
 use Rattle.recovery_pair.specs.declared.steps.End.{End}
 use Rattle.recovery_pair.specs.declared.steps.End.TheVariants.{Client, Server}
@@ -19,6 +17,7 @@ use Rattle.recovery_pair.specs.declared.steps.PairAnswer.TheVariants.{Sent}
 use Rattle.recovery_pair.specs.declared.steps.PairStep.{PairStep}
 use Rattle.recovery_pair.specs.declared.steps.PairStep.TheVariants.{Send}
 use Rattle.recovery_pair.specs.Pasts.{HasPast}
+use Rattle.recovery_pair.specs.Permits.{answer_of}
 use Rattle.recovery_pair.specs.Promises.Repeats.{is_probe}
 
 -- what waits longest in a space, if anything does
@@ -46,12 +45,6 @@ abbrev pub KeepsSpaces : {F Q R C K S M P : Type 0} {f : _} {c : _} {q : _} {m :
     → Sender F Q R C K S M P f c q m r → Sender F Q R C K S M P f c q m r → Type 0
 KeepsSpaces old new = (space : SpaceId) → space_of space (state_in new).spaces ≡ space_of space (state_in old).spaces
 
--- while a probe is due in a space, what is sent there is one
-abbrev pub IsProbeIfDue : {F Q R C K S M P : Type 0} {f : _} {c : _} {q : _} {m : _} {r : _} → SpaceId → Bool
-    → Option ℕ → Sender F Q R C K S M P f c q m r → Type 0
-IsProbeIfDue space eliciting window sender =
-    is_probe_due sender.variables space ≡ true → is_probe eliciting window ≡ true
-
 module _ {F Q R C K S M : Type 0} {f : _} {c : _} {q : _} {m : _} {r : _} where
   -- in a space: the retransmission queue and the packets in flight have no items
   abbrev pub RepeatsNone : SpaceId → Sender F Q R C K S M (List ℕ) f c q m r → Type 0
@@ -63,17 +56,15 @@ module _ {F Q R C K S M : Type 0} {f : _} {c : _} {q : _} {m : _} {r : _} where
   IsFilled probe space items here = probe ≡ true → items ≡ [] → HasPast here.0
       → RepeatsNone space here.0 × (next_in space here.1 ≡ [])
 
-  abbrev pub FillsOutcome : SpaceId → Result Outgoing SenderError
-      → Sender F Q R C K S M (List ℕ) f c q m r × List Waiting → Type 0
-  FillsOutcome space (Ok (outgoing.Sent packet items window)) =
-      IsFilled (is_probe packet.eliciting window) space items.items
-  FillsOutcome space outcome = λ here. Unit {0}
-
   abbrev pub FillsAnswer : SpaceId → Result PairAnswer SenderError
       → Sender F Q R C K S M (List ℕ) f c q m r × List Waiting → Type 0
   FillsAnswer space (Ok (Sent number items eliciting window ack)) =
       IsFilled (is_probe eliciting window) space items.items
   FillsAnswer space answer = λ here. Unit {0}
+
+  abbrev pub FillsOutcome : SpaceId → Result Outgoing SenderError
+      → Sender F Q R C K S M (List ℕ) f c q m r × List Waiting → Type 0
+  FillsOutcome space outcome = FillsAnswer space (answer_of outcome)
 
   -- of an endpoint that sends
   abbrev pub FillsProbes : PairStep → Result PairAnswer SenderError

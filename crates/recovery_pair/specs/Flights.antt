@@ -1,6 +1,6 @@
 -- The packets in flight of an endpoint, by the log (RFC 9002, 2 and B.2). The endpoint sent them, and they are
 -- ack-eliciting. No later answer reports them as acknowledged or lost, and no later step discards their space.
-use Rattle.std.specs.Prelude.{ℕ, ◌+◌, ◌==◌, ◌&&◌, ◌||◌, nat_eq, max, Bool, true, false, List, [], ◌∷◌, Option, None, Some, Result, Ok, if◌then◌else◌}
+use Rattle.std.specs.Prelude.{ℕ, ◌+◌, ◌==◌, ◌&&◌, ◌||◌, nat_eq, max, Bool, true, false, [], ◌∷◌, Option, Some, Result, Ok, if◌then◌else◌}
 use Rattle.std.specs.Option.{option_map_or}
 use Rattle.std.specs.Set.{is_member}
 use Rattle.recovery_base.specs.declared.below.SpaceId.{SpaceId}

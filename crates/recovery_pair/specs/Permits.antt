@@ -20,6 +20,16 @@ use Rattle.recovery_pair.specs.declared.steps.PairAnswer.{PairAnswer}
 use Rattle.recovery_pair.specs.declared.steps.PairAnswer.TheVariants.{Failed, Held, Nothing, Sent}
 use Rattle.recovery_pair.specs.declared.steps.PairStep.{PairStep}
 use Rattle.recovery_pair.specs.declared.steps.PairStep.TheVariants.{Send}
+use Rattle.recovery_pair.specs.Logs.{ack_of}
+
+-- the answer that an outcome gives
+abbrev pub answer_of : Result Outgoing SenderError → Result PairAnswer SenderError
+answer_of (Ok (outgoing.Sent packet items window)) =
+    Ok (Sent packet.number items packet.eliciting window (ack_of packet))
+answer_of (Ok (outgoing.Failed refusal)) = Ok (Failed refusal)
+answer_of (Ok (outgoing.Held held)) = Ok (Held held)
+answer_of (Ok outgoing.Nothing) = Ok Nothing
+answer_of (Err refusal) = Err refusal
 
 module _ (Idle : Type 0) (in_flight : Bool) (checked : Option ℕ) (said : Result Transmission SenderError) where
   -- memory ran out, or the sender returned this error for the datagram
@@ -37,15 +47,6 @@ module _ (Idle : Type 0) (in_flight : Bool) (checked : Option ℕ) (said : Resul
   AgreesWith (Ok Nothing) = Idle
   AgreesWith (Ok answer) = ⊥
   AgreesWith (Err refusal) = FailsAsSaid refusal
-
-  -- the answer that an outcome gives, as far as it matters here
-  abbrev pub AgreesAlready : Result Outgoing SenderError → Type 0
-  AgreesAlready (Ok (outgoing.Sent packet items window)) =
-      (said ≡ Ok Transmitted) × (packet.eliciting ≡ in_flight) × (window ≡ checked) × (in_flight ≡ false → Idle)
-  AgreesAlready (Ok (outgoing.Failed refusal)) = said ≡ Ok Transmitted
-  AgreesAlready (Ok (outgoing.Held held)) = (said ≡ Ok held) × (held ≡ Transmitted → ⊥)
-  AgreesAlready (Ok outgoing.Nothing) = Idle
-  AgreesAlready (Err refusal) = FailsAsSaid refusal
 
 module _ {F Q R C K S M P : Type 0} {f : _} {c : _} {q : _} {m : _} {r : _} where
   -- what a sender says of a datagram that counts in flight, or not
@@ -69,16 +70,13 @@ module _ {F Q R C K S M P : Type 0} {f : _} {c : _} {q : _} {m : _} {r : _} wher
       → (is_probe_due sender.variables space ≡ false)
       × ((space_of space (state_in sender).spaces).pending ≡ q.words.empty)
 
-  abbrev pub PermitsOutcome : SpaceId → ℕ → ℕ → Result Outgoing SenderError → Sender F Q R C K S M P f c q m r → Type 0
-  PermitsOutcome space now size outcome sender = (in_flight : Bool)
-      × AgreesAlready (IsIdle sender space) in_flight (window_checked sender space in_flight) (said_by sender space now
-      size in_flight)
-      outcome
-
   abbrev pub PermitsAnswer : SpaceId → ℕ → ℕ → Result PairAnswer SenderError → Sender F Q R C K S M P f c q m r → Type 0
   PermitsAnswer space now size answer sender = (in_flight : Bool)
       × AgreesWith (IsIdle sender space) in_flight (window_checked sender space in_flight) (said_by sender space now
       size in_flight) answer
+
+  abbrev pub PermitsOutcome : SpaceId → ℕ → ℕ → Result Outgoing SenderError → Sender F Q R C K S M P f c q m r → Type 0
+  PermitsOutcome space now size outcome = PermitsAnswer space now size (answer_of outcome)
 
   -- of this endpoint
   abbrev pub HoldsAt : End → (Sender F Q R C K S M P f c q m r → Type 0) → Sender F Q R C K S M P f c q m r

@@ -1,13 +1,15 @@
 -- The first probe has items (RFC 9002, 6.2.4). Premise: a packet with items is in flight in a space, and no probe had
--- any there. Then a packet that is sent there in the step after a probe timeout has items, and only items that were
--- passed. So if one item was passed, the packet has that item.
-use Rattle.std.specs.Prelude.{◌≡◌, ◌≢◌, ℕ, ◌<◌, Option, Bool, false, List, [], ◌∷◌, length, Ok}
-use Rattle.std.specs.Global.{Vec}
+-- any there. Then the step after a probe timeout sends a packet there, unless the amplification limit blocks it (RFC
+-- 9000, 8.1) or it fails. The packet has items, and only items that were passed. So if one item was passed, the packet
+-- has that item.
+use Rattle.std.specs.Prelude.{◌≡◌, ◌≢◌, ℕ, ◌<◌, Bool, false, List, [], ◌∷◌, length, Result, Ok}
 use Rattle.recovery_base.specs.declared.below.SpaceId.{SpaceId}
+use Rattle.recovery_sender.specs.declared.sender.SenderError.{SenderError}
+use Rattle.recovery_sender.specs.declared.sender.packets.Transmission.TheVariants.{Blocked}
 use Rattle.recovery_pair.specs.declared.steps.End.{End}
-use Rattle.recovery_pair.specs.declared.steps.PairAnswer.TheVariants.{Sent}
+use Rattle.recovery_pair.specs.declared.steps.PairAnswer.{PairAnswer}
+use Rattle.recovery_pair.specs.declared.steps.PairAnswer.TheVariants.{Held, Nothing, Sent}
 use Rattle.recovery_pair.specs.declared.steps.PairStep.TheVariants.{Send}
-use Rattle.recovery_pair.specs.declared.steps.SentAck.{SentAck}
 use Rattle.recovery_pair.specs.Logs.{PairLog, handed, was_discarded}
 use Rattle.recovery_pair.specs.Promises.{KeepsPromises}
 use Rattle.recovery_pair.specs.Promises.Newly.{flight_of_one}
@@ -24,10 +26,17 @@ pub record IsUnprobed (log : PairLog) (end : End) (space : SpaceId) (n : ℕ) : 
   pub keys : was_discarded end space log ≡ false
   pub tracks : has_failed end space log ≡ false
 
--- then a packet that is sent has items, none of which was not passed
-abbrev pub ProbesUnprobed : Type 0
-ProbesUnprobed = (validated : Bool) (log : PairLog) (end : End) (space : SpaceId) (n now size number : ℕ)
-    (items : Vec ℕ) (eliciting : Bool) (window : Option ℕ) (ack : SentAck) → IsUnprobed log end space n
-    → KeepsPromises validated log (Send end space now size, Ok (Sent number items eliciting window ack))
-    → (items.items ≢ []) × ((measure : List ℕ → ℕ) → AddsItems measure → handed end measure space log ≡ 0
+-- a packet is sent with items, none of which was not passed, or the amplification limit blocks it, or `Send` fails
+-- (answers of another kind do not occur: `SendsAsPermitted`)
+abbrev pub SendsPassedItems : PairLog → End → SpaceId → Result PairAnswer SenderError → Type 0
+SendsPassedItems log end space (Ok (Sent number items eliciting window ack)) =
+    (items.items ≢ []) × ((measure : List ℕ → ℕ) → AddsItems measure → handed end measure space log ≡ 0
     → measure items.items ≡ 0)
+SendsPassedItems log end space (Ok (Held held)) = held ≡ Blocked
+SendsPassedItems log end space (Ok Nothing) = ⊥
+SendsPassedItems log end space answer = Unit {0}
+
+abbrev pub ProbesUnprobed : Type 0
+ProbesUnprobed = (validated : Bool) (log : PairLog) (end : End) (space : SpaceId) (n now size : ℕ)
+    (answer : Result PairAnswer SenderError) → IsUnprobed log end space n
+    → KeepsPromises validated log (Send end space now size, answer) → SendsPassedItems log end space answer

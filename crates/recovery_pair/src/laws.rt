@@ -9,8 +9,9 @@ pub fn new_reno_recovers()
     ensures { FallsByRecovery reno_words }
 {}
 
-/// Proves that a packet sent in the step after a probe timeout has items, and only such as were passed. Premise: a
-/// packet in flight has some, and no probe of the space had any (RFC 9002, 6.2.4).
+/// Proves that the step after a probe timeout sends items, and only such as were passed, unless the amplification limit
+/// blocks it (RFC 9000, 8.1) or it fails. Premise: a packet in flight has some, and no probe of the space had any (RFC
+/// 9002, 6.2.4).
 pub fn unprobed_items_are_sent()
     ensures { ProbesUnprobed }
 {}

@@ -1,14 +1,16 @@
--- In the step after a probe timeout its space sends only a probe (RFC 9002, 6.2.4). If an endpoint sends one without
--- items in a space with keys, its earlier probes there had no fewer items than are in flight, by every measure that
--- adds up. It holds until a packet of the space cannot be tracked.
+-- In the step after a probe timeout its space sends a probe (RFC 9002, 6.2.4), unless that fails. Only the
+-- amplification limit holds it back (RFC 9000, 8.1), and never the window (RFC 9002, 7.5). If an endpoint sends one
+-- without items in a space with keys, its earlier probes there had no fewer items than are in flight, by every measure
+-- that adds up. That holds until a packet of the space cannot be tracked.
 use Rattle.std.specs.Prelude.{◌≡◌, ℕ, ◌<◌, ◌≤◌, ◌&&◌, nat_eq, true, false, List, [], ◌∷◌, Ok}
 use Rattle.std.specs.Set.{is_member}
 use Rattle.recovery_base.specs.declared.below.SpaceId.{SpaceId}
 use Rattle.recovery_base.specs.Spaces.{same_space}
+use Rattle.recovery_sender.specs.declared.sender.packets.Transmission.TheVariants.{Blocked}
 use Rattle.recovery_sender.specs.declared.sender.probes.Timeout.TheVariants.{Probe}
 use Rattle.recovery_pair.specs.declared.steps.End.{End}
 use Rattle.recovery_pair.specs.declared.steps.LocalStep.TheVariants.{Expire}
-use Rattle.recovery_pair.specs.declared.steps.PairAnswer.TheVariants.{Expired, Sent}
+use Rattle.recovery_pair.specs.declared.steps.PairAnswer.TheVariants.{Expired, Held, Nothing, Sent}
 use Rattle.recovery_pair.specs.declared.steps.PairStep.TheVariants.{Local, Send}
 use Rattle.recovery_pair.specs.Logs.{PairEvent, PairLog, same_end, was_discarded}
 use Rattle.recovery_pair.specs.Promises.Newly.{flight_of_one}
@@ -34,4 +36,7 @@ ProbesForFlight log (Send end space now size, Ok (Sent number items eliciting wi
     → has_failed end space log ≡ false → (measure : List ℕ → ℕ) → AddsItems measure
     → (numbers : List ℕ) → AreInFlight end space log numbers
     → sent_under end space measure numbers log ≤ probed_in end space measure log)
+ProbesForFlight log (Send end space now size, Ok (Held held)) = IsAsked log end space → held ≡ Blocked
+ProbesForFlight log (Send end space now size, Ok Nothing) =
+    IsAsked log end space → was_discarded end space log ≡ false → ⊥
 ProbesForFlight log event = Unit {0}

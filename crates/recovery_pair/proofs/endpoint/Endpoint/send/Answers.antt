@@ -1,5 +1,5 @@
 use Rattle.std.proofs.Common.{ℕ, Option, Ok, subst, sym}
-use Rattle.recovery_pair.specs.Permits.{AgreesAlready, IsIdle, said_by}
+use Rattle.recovery_pair.specs.Permits.{AgreesWith, IsIdle, answer_of, said_by}
 use Rattle.recovery_pair.proofs.FilledLaws.{fills_before}
 use Rattle.recovery_pair.proofs.PermitLaws.{packed_agrees}
 use Rattle.recovery_pair.proofs.TurnLaws.{packed_turn}
@@ -19,10 +19,10 @@ pub returns-clause-permits : goal.returns-clause-permits
 returns-clause-permits g c =
     let transmits = rw c.in-Ok-Transmitted.field-0-is at c.in-Ok-Transmitted.ensures in (
       c.has_items-eliciting.result,
-      subst (λ (checked : Option ℕ). AgreesAlready (IsIdle c.args.self.now.sender c.args.space)
+      subst (λ (checked : Option ℕ). AgreesWith (IsIdle c.args.self.now.sender c.args.space)
           c.has_items-eliciting.result checked
           (said_by c.args.self.now.sender c.args.space c.args.now c.args.size c.has_items-eliciting.result)
-          (Ok c.pack.result)) c.window_checked-window.ensures
+          (answer_of (Ok c.pack.result))) c.window_checked-window.ensures
           (packed_agrees c.transmit.new.sender c.pack.new.self.sender c.args.from c.args.space c.args.now
           c.args.size
           c.has_items-eliciting.result c.window_checked-window.result _ c.in-Ok.ack.ranges.items c.in-Ok.ack.delay _
