@@ -56,7 +56,7 @@ class Packet:
 
 
 def is_probe(said):
-    """A packet counts in flight, and no window was checked for it."""
+    """Whether what is sent counts in flight, and no window was checked for it."""
     return "ack-only" not in said and "window" not in said
 
 
@@ -78,7 +78,7 @@ class World:
             holds("a step is refused only for a discarded space", said[2:] == ["SpaceDiscarded"] and tuple(words[1:3]) in self.discarded)
             return
         if words[0] == "send" and asked == (words[1], words[2]):
-            holds("the step after a probe timeout sends a probe, or is blocked", said == ["blocked"] or said[0] == "sent" and is_probe(said))
+            holds("a send right after a probe timeout is a probe, or is blocked", said == ["blocked"] or said[0] == "sent" and is_probe(said))
         if words[0] == "validated":
             self.validated.add(words[1])
         elif words[0] in taken:
