@@ -1,5 +1,5 @@
--- Worked rows of what is sent again and of probes, computed: with the right log each promise holds, and with a wrong
--- one it does not. Nothing rests on them.
+-- Worked rows of what is sent again and of probes, computed: with the right log and answer each promise holds, and with
+-- a wrong one it does not. Nothing rests on them.
 use Rattle.std.proofs.Common.{◌≡◌, ℕ, true, false, true≢false, [], ◌∷◌, length, Option, None, Some, Ok, refl, sym, arith}
 use Rattle.std.proofs.lemmas.List.{length-append}
 use Rattle.std.specs.Global.{Vec}
@@ -7,7 +7,7 @@ use Rattle.recovery_base.specs.declared.below.SpaceId.TheVariants.{Data, Initial
 use Rattle.recovery_sender.specs.declared.sender.SenderError.{SenderError}
 use Rattle.recovery_sender.specs.declared.sender.losses.Losses.{Losses}
 use Rattle.recovery_sender.specs.declared.sender.packets.Transmission.{Transmission}
-use Rattle.recovery_sender.specs.declared.sender.packets.Transmission.TheVariants.{Blocked, Delayed, Full}
+use Rattle.recovery_sender.specs.declared.sender.packets.Transmission.TheVariants.{Blocked, Delayed, Full, Transmitted}
 use Rattle.recovery_sender.specs.declared.sender.probes.Timeout.TheVariants.{Lost, Probe}
 use Rattle.recovery_pair.proofs.PairRows.{no_frame}
 use Rattle.recovery_pair.specs.declared.steps.End.TheVariants.{Client, Server}
@@ -163,22 +163,39 @@ the_window_may_not probes = absurd (let blocked = probes refl in cc)
 nor_the_pacer : (until : ℕ) → ¬ ProbesForFlight asks (held_back (Delayed until))
 nor_the_pacer until probes = absurd (let blocked = probes refl in cc)
 
-there_is_something_to_send : ¬ ProbesForFlight asks (Send Client Data 10 60, Ok Nothing)
-there_is_something_to_send probes = absurd (probes refl refl)
+it_may_not_be_idle : ¬ ProbesForFlight asks (Send Client Data 10 60, Ok Nothing)
+it_may_not_be_idle probes = absurd (probes refl refl)
 
-not_in_the_other_space : ProbesForFlight asks (Send Client Initial 10 60, Ok Nothing)
-not_in_the_other_space asked keys = absurd (true≢false (sym asked))
+another_space_may_idle : ProbesForFlight asks (Send Client Initial 10 60, Ok Nothing)
+another_space_may_idle asked keys = absurd (true≢false (sym asked))
 
-nor_at_the_server : ProbesForFlight asks (Send Server Data 10 60, Ok (Held Full))
-nor_at_the_server asked = absurd (true≢false (sym asked))
+the_server_may_be_full : ProbesForFlight asks (Send Server Data 10 60, Ok (Held Full))
+the_server_may_be_full asked = absurd (true≢false (sym asked))
+
+it_may_without_keys : ProbesForFlight ((Local Client (Expire 9), Ok (Expired (Probe Data 2)))
+    ∷ (Local Client (Discard Data 8), Ok Done) ∷ []) (Send Client Data 10 60, Ok Nothing)
+it_may_without_keys asked keys = absurd (true≢false keys)
+
+-- another step comes first
+it_lapses : ProbesForFlight ((Local Client (Discard Initial 9), Ok Done) ∷ asks) (held_back Full)
+it_lapses asked = absurd asked
+
+it_is_not_permitted : ¬ ProbesForFlight asks (held_back Transmitted)
+it_is_not_permitted probes = absurd (let blocked = probes refl in cc)
 
 module _ (items : Vec ℕ) where
-  a_probe_is_sent : ¬ (items.items ≡ [])
+  a_probe_with_items_may : ¬ (items.items ≡ [])
       → ProbesForFlight asks (Send Client Data 10 60, Ok (Sent 1 items true None no_frame))
-  a_probe_is_sent some = (λ asked. refl, λ probe none. absurd (some none))
+  a_probe_with_items_may some = (λ asked. refl, λ probe none. absurd (some none))
 
   not_for_a_window : ¬ ProbesForFlight asks (Send Client Data 10 60, Ok (Sent 1 items true (Some 1500) no_frame))
   not_for_a_window probes = true≢false (sym (probes.0 refl))
 
   not_an_ack_alone : ¬ ProbesForFlight asks (Send Client Data 10 60, Ok (Sent 1 items false None no_frame))
   not_an_ack_alone probes = true≢false (sym (probes.0 refl))
+
+  not_an_empty_one : (empty : Vec ℕ) → empty.items ≡ [] → items.items ≡ 7 ∷ []
+      → ¬ ProbesForFlight (sent_once items) (Send Client Data 10 60, Ok (Sent 1 empty true None no_frame))
+  not_an_empty_one empty none these probes =
+      let most = rw these at (probes.1 refl none refl refl length counts_items (0 ∷ []) (omega arith, refl, tt)) in
+      absurd (omega (arith, most))

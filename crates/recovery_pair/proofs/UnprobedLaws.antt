@@ -1,5 +1,4 @@
--- The step after a probe timeout sends items, if a packet with items is in flight and no probe had any. All were
--- passed.
+-- `Send` right after a probe timeout sends items that were passed, is blocked, or fails.
 use Rattle.std.proofs.Common.{◌≡◌, true, [], ◌∷◌, length, length-append, Ok, refl, arith}
 use Rattle.recovery_pair.specs.declared.steps.End.{End}
 use Rattle.recovery_pair.specs.declared.steps.End.TheVariants.{Client, Server}

@@ -79,7 +79,7 @@ pub record KeepsPromises (validated : Bool) (log : PairLog) (event : PairEvent) 
   -- Nothing is sent again without cause (RFC 9000, 13.3; RFC 9002, 6.2.4). An endpoint sends in a space at most what
   -- was passed to it, what it reported as lost, and what its probes carry. By every measure of items that adds up.
   pub repeats : RepeatsWithCause (event ∷ log)
-  -- In the step after a probe timeout its space sends a probe, unless the amplification limit blocks it or it fails. A
+  -- `Send` right after a probe timeout of its space sends a probe, is blocked by the amplification limit, or fails. A
   -- probe has no items only if earlier ones had no fewer than are in flight, by every measure of items that adds up
   -- (RFC 9002, 6.2.4 and 7.5; RFC 9000, 8.1).
   pub probes : ProbesForFlight log event

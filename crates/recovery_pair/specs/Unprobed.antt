@@ -1,7 +1,7 @@
--- The first probe has items (RFC 9002, 6.2.4). Premise: a packet with items is in flight in a space, and no probe had
--- any there. Then the step after a probe timeout sends a packet there, unless the amplification limit blocks it (RFC
--- 9000, 8.1) or it fails. The packet has items, and only items that were passed. So if one item was passed, the packet
--- has that item.
+-- The first probe has items (RFC 9002, 6.2.4). Premise: a packet with items is in flight in a space with keys, no probe
+-- had any there, and each packet there was tracked. Then `Send` right after a probe timeout of the space sends a
+-- packet, is blocked by the amplification limit (RFC 9000, 8.1), or fails. The packet has items, and only items that
+-- were passed. So if one item was passed, the packet has that item.
 use Rattle.std.specs.Prelude.{◌≡◌, ◌≢◌, ℕ, ◌<◌, Bool, false, List, [], ◌∷◌, length, Result, Ok}
 use Rattle.recovery_base.specs.declared.below.SpaceId.{SpaceId}
 use Rattle.recovery_sender.specs.declared.sender.SenderError.{SenderError}
@@ -26,7 +26,7 @@ pub record IsUnprobed (log : PairLog) (end : End) (space : SpaceId) (n : ℕ) : 
   pub keys : was_discarded end space log ≡ false
   pub tracks : has_failed end space log ≡ false
 
--- a packet is sent with items, none of which was not passed, or the amplification limit blocks it, or `Send` fails
+-- a packet is sent with items, all of them passed, or the amplification limit blocks it, or `Send` fails
 -- (answers of another kind do not occur: `SendsAsPermitted`)
 abbrev pub SendsPassedItems : PairLog → End → SpaceId → Result PairAnswer SenderError → Type 0
 SendsPassedItems log end space (Ok (Sent number items eliciting window ack)) =

@@ -9,9 +9,9 @@ pub fn new_reno_recovers()
     ensures { FallsByRecovery reno_words }
 {}
 
-/// Proves that the step after a probe timeout sends items, and only such as were passed, unless the amplification limit
-/// blocks it (RFC 9000, 8.1) or it fails. Premise: a packet in flight has some, and no probe of the space had any (RFC
-/// 9002, 6.2.4).
+/// Proves that `Send` right after a probe timeout of its space sends items, and only such as were passed, unless the
+/// amplification limit blocks it (RFC 9000, 8.1) or it fails. Premise: the space has keys, each packet there was
+/// tracked, one in flight has items, and no probe there had any (RFC 9002, 6.2.4).
 pub fn unprobed_items_are_sent()
     ensures { ProbesUnprobed }
 {}

@@ -1,7 +1,7 @@
--- In the step after a probe timeout its space sends a probe (RFC 9002, 6.2.4), unless that fails. Only the
--- amplification limit holds it back (RFC 9000, 8.1), and never the window (RFC 9002, 7.5). If an endpoint sends one
--- without items in a space with keys, its earlier probes there had no fewer items than are in flight, by every measure
--- that adds up. That holds until a packet of the space cannot be tracked.
+-- `Send` right after a probe timeout of its space sends a probe, if the space has keys (RFC 9002, 6.2.4), or it fails.
+-- Only the amplification limit holds the probe back (RFC 9000, 8.1), and never the window (RFC 9002, 7.5). If an
+-- endpoint sends a probe without items in a space with keys, its earlier probes there had no fewer items than are in
+-- flight, by every measure that adds up. This last promise ends if a packet of the space cannot be tracked.
 use Rattle.std.specs.Prelude.{◌≡◌, ℕ, ◌<◌, ◌≤◌, ◌&&◌, nat_eq, true, false, List, [], ◌∷◌, Ok}
 use Rattle.std.specs.Set.{is_member}
 use Rattle.recovery_base.specs.declared.below.SpaceId.{SpaceId}
