@@ -28,7 +28,6 @@ const REACH: u64 = 128;
 /// A flow. Times are in nanoseconds.
 #[derive(Drop)]
 pub struct Flow {
-    alloc: Global,
     index: u64,
     sending: Sending,
     application: Application,
@@ -105,7 +104,6 @@ impl Flow {
         let start = settings.stagger.saturating_mul(index);
         let seed = settings.seed.wrapping_add(index).wrapping_add(1);
         Ok(Flow {
-            alloc,
             index,
             sending,
             application: application(settings, start),
@@ -123,8 +121,8 @@ impl Flow {
     }
 
     /// Ends the handshake.
-    pub fn begin(&mut self, settings: &Settings) -> Result<(), Ending> {
-        self.sending.begin(settings.ack_delay)
+    pub fn begin(&mut self, settings: &Settings) {
+        self.sending.begin(settings.ack_delay);
     }
 
     /// Returns the records.
@@ -187,7 +185,7 @@ impl Flow {
         }
         let late = if self.draws.delays() { self.late } else { 0 };
         if self.draws.doubles() {
-            let twin = packet.again(self.alloc)?;
+            let twin = packet.clone()?;
             self.back.send(now, late, twin)?;
         }
         self.back.send(now, late, packet)?;

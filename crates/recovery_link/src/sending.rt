@@ -88,11 +88,11 @@ impl Sending {
     }
 
     /// Ends the handshake, with a peer that delays its ACKs by at most this much.
-    pub fn begin(&mut self, max_ack_delay: u64) -> Result<(), Ending> {
+    pub fn begin(&mut self, max_ack_delay: u64) {
         self.sender
             .set_peer_max_ack_delay(Duration::from_nanos(max_ack_delay));
         self.sender.on_handshake_confirmed();
-        self.teller.begins(max_ack_delay)
+        self.teller.begins(max_ack_delay);
     }
 
     /// Returns whether some packet in flight carries an item.
@@ -139,10 +139,10 @@ impl Sending {
 
     /// Asks for a datagram. Returns the time at which to ask again, if it may not be sent now.
     pub fn transmit(&mut self, now: u64) -> Result<Option<u64>, Ending> {
-        self.teller.asks(now, self.is_paced)?;
+        self.teller.asks(now, self.is_paced);
         let again = self.ask(now)?;
         if let Some(until) = again {
-            self.teller.delayed(now, until)?;
+            self.teller.delayed(now, until);
         }
         Ok(again)
     }
@@ -180,15 +180,15 @@ impl Sending {
         frame: Option<&Frame>,
     ) -> Result<u64, Ending> {
         let largest = largest_in(frame);
-        self.teller.sends(now, largest, item)?;
+        self.teller.sends(now, largest, item);
         let number = self.track(now, largest, item)?;
         match item {
             Some(_) => self.carrying = self.carrying.saturating_add(1),
             None => self.silent.push(number)?,
         }
         self.figures.sent = self.figures.sent.saturating_add(1);
-        self.teller.sent(now, number, frame, item, self.is_paced)?;
-        self.tell_flight(now)?;
+        self.teller.sent(now, number, frame, item, self.is_paced);
+        self.tell_flight(now);
         Ok(number)
     }
 
@@ -217,11 +217,11 @@ impl Sending {
         packet: &AckPacket,
         app_limited: bool,
     ) -> Result<bool, Ending> {
-        self.teller.hears(now, packet.number)?;
+        self.teller.hears(now, packet.number);
         if self.hear(now, packet.number)? {
             self.acknowledged(now, packet, app_limited)
         } else {
-            self.teller.dropped(now, packet.number)?;
+            self.teller.dropped(now, packet.number);
             Ok(false)
         }
     }
@@ -249,7 +249,7 @@ impl Sending {
         app_limited: bool,
     ) -> Result<bool, Ending> {
         let frame = &packet.frame;
-        self.teller.received(now, packet, app_limited)?;
+        self.teller.received(now, packet, app_limited);
         let ack = Ack {
             delay: Duration::from_nanos(frame.delay),
             ecn: frame.ecn,
@@ -262,7 +262,7 @@ impl Sending {
                 self.figures.acked = self.figures.acked.saturating_add(count);
                 self.settle(&acknowledged.numbers);
                 if matches!(acknowledged.ecn, EcnOutcome::Marked) {
-                    self.teller.marked(now)?;
+                    self.teller.marked(now);
                 }
                 self.look(now, &acknowledged.losses)
             }
@@ -272,13 +272,13 @@ impl Sending {
 
     /// Processes the timer. Returns whether something is to be retransmitted.
     pub fn expire(&mut self, now: u64) -> Result<bool, Ending> {
-        self.teller.expires(now)?;
+        self.teller.expires(now);
         let at = Instant::from_nanos(now);
         match self.sender.on_timeout(at) {
             Ok(Timeout::Lost { losses, .. }) => self.look(now, &losses),
             Ok(Timeout::Probe { count, .. }) => {
                 self.figures.probes = self.figures.probes.saturating_add(u64::from(count));
-                self.tell_state(now)?;
+                self.tell_state(now);
                 Ok(false)
             }
             Ok(Timeout::Nothing) => Ok(false),
@@ -299,14 +299,14 @@ impl Sending {
             self.figures.persistent = self.figures.persistent.saturating_add(1);
         }
         let largest = self.largest_acked();
-        self.teller.lost(now, losses, largest)?;
-        self.tell_state(now)?;
+        self.teller.lost(now, losses, largest);
+        self.tell_state(now);
         Ok(count > 0)
     }
 
     /// Appends the contents of a probe to the items to retransmit.
     pub fn probe(&mut self, now: u64, again: &mut VecDeque<u64>) -> Result<(), Ending> {
-        self.teller.probes()?;
+        self.teller.probes();
         let items = match self.sender.probe(SpaceId::Data, false, ()) {
             Ok(items) => items,
             Err(refused) => return Err(Ending::from(refused)),
@@ -314,12 +314,13 @@ impl Sending {
         for item in items.items() {
             again.push_back(*item)?;
         }
-        self.teller.taken(now, items.items())
+        self.teller.taken(now, items.items());
+        Ok(())
     }
 
     /// Appends the retransmission queue to the items to retransmit.
     pub fn take_pending(&mut self, now: u64, again: &mut VecDeque<u64>) -> Result<(), Ending> {
-        self.teller.takes()?;
+        self.teller.takes();
         let taken = Event::TakePending {
             space: SpaceId::Data,
         };
@@ -331,7 +332,8 @@ impl Sending {
         for item in items.items() {
             again.push_back(*item)?;
         }
-        self.teller.taken(now, items.items())
+        self.teller.taken(now, items.items());
+        Ok(())
     }
 
     fn largest_acked(&self) -> u64 {
@@ -368,28 +370,26 @@ impl Sending {
     }
 
     /// Records what is in flight, and the timer.
-    fn tell_flight(&mut self, now: u64) -> Result<(), Ending> {
-        if !self.teller.is_qlog() {
-            return Ok(());
+    fn tell_flight(&mut self, now: u64) {
+        if self.teller.is_qlog() {
+            let metrics = self.metrics();
+            self.teller.flies(now, &metrics);
+            self.tell_timer(now);
         }
-        let metrics = self.metrics();
-        self.teller.flies(now, &metrics)?;
-        self.tell_timer(now)
     }
 
     /// Records the state of the path, and the timer.
-    fn tell_state(&mut self, now: u64) -> Result<(), Ending> {
-        if !self.teller.is_qlog() {
-            return Ok(());
+    fn tell_state(&mut self, now: u64) {
+        if self.teller.is_qlog() {
+            let metrics = self.metrics();
+            self.teller.stands(now, &metrics);
+            self.tell_timer(now);
         }
-        let metrics = self.metrics();
-        self.teller.stands(now, &metrics)?;
-        self.tell_timer(now)
     }
 
-    fn tell_timer(&mut self, now: u64) -> Result<(), Ending> {
+    fn tell_timer(&mut self, now: u64) {
         let timer = self.timer();
         let is_loss = self.waits_for_losses();
-        self.teller.timed(now, timer, is_loss)
+        self.teller.timed(now, timer, is_loss);
     }
 }

@@ -15,10 +15,11 @@ pub enum Piece {
     Number(u64),
 }
 
-/// Text that waits to be written.
+/// Text that waits to be written. Once an allocation failed, `pass` and `finish` write nothing and return the error.
 #[derive(Drop)]
 pub struct Tape {
     text: String,
+    is_cut: bool,
 }
 
 fn push(text: &mut String, pieces: &[Piece]) -> Result<(), AllocError> {
@@ -36,18 +37,20 @@ impl Tape {
     pub fn new(alloc: Global) -> Self {
         Tape {
             text: String::new(alloc),
+            is_cut: false,
         }
     }
 
-    /// Appends pieces.
-    pub fn write(&mut self, pieces: &[Piece]) -> Result<(), Ending> {
-        push(&mut self.text, pieces)?;
-        Ok(())
+    /// Appends pieces. If an allocation fails, the next call of `pass` or `finish` returns the error.
+    pub fn append(&mut self, pieces: &[Piece]) {
+        if !self.is_cut && push(&mut self.text, pieces).is_err() {
+            self.is_cut = true;
+        }
     }
 
     /// Writes what was appended so far, if it is long enough.
     pub fn pass<W: Write>(&mut self, output: &mut W) -> Result<(), Ending> {
-        if self.text.len() < ROOM {
+        if self.text.len() < ROOM && !self.is_cut {
             return Ok(());
         }
         self.finish(output)
@@ -55,6 +58,9 @@ impl Tape {
 
     /// Writes what was appended so far.
     pub fn finish<W: Write>(&mut self, output: &mut W) -> Result<(), Ending> {
+        if self.is_cut {
+            return Err(Ending::OutOfMemory);
+        }
         match deliver(output, self.text.as_bytes()) {
             Ok(()) => {
                 self.text.clear();

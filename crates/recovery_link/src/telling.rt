@@ -54,12 +54,12 @@ impl Teller {
         self.form == Form::Qlog
     }
 
-    /// Writes the records to an output, if there are many.
+    /// Writes the records to an output, if there are many. Returns an error if an allocation failed for a record.
     pub fn pass<W: Write>(&mut self, output: &mut W) -> Result<(), Ending> {
         self.tape.pass(output)
     }
 
-    /// Writes all records to an output.
+    /// Writes all records to an output. Returns an error if an allocation failed for a record.
     pub fn finish<W: Write>(&mut self, output: &mut W) -> Result<(), Ending> {
         self.tape.finish(output)
     }
@@ -69,35 +69,35 @@ impl Teller {
     }
 
     /// Begins an event.
-    fn begin(&mut self, now: u64, name: &'static str) -> Result<(), Ending> {
-        self.tape.write(&[
+    fn begin(&mut self, now: u64, name: &'static str) {
+        self.tape.append(&[
             Text("\u{1e}{\"time\":"),
             Number(now),
             Text("e-6,\"name\":\""),
             Text(name),
             Text("\",\"data\":{"),
-        ])
+        ]);
     }
 
     /// Records an event with these data.
-    fn event(&mut self, now: u64, name: &'static str, pieces: &[Piece]) -> Result<(), Ending> {
-        self.begin(now, name)?;
-        self.tape.write(pieces)?;
-        self.tape.write(&[Text("}}\n")])
+    fn event(&mut self, now: u64, name: &'static str, pieces: &[Piece]) {
+        self.begin(now, name);
+        self.tape.append(pieces);
+        self.tape.append(&[Text("}}\n")]);
     }
 
     /// Records that the connection is established, to a peer that delays its ACKs by at most this much.
-    pub fn begins(&mut self, max_ack_delay: u64) -> Result<(), Ending> {
+    pub fn begins(&mut self, max_ack_delay: u64) {
         if self.is_script() {
             let delay = Number(max_ack_delay);
-            return self
-                .tape
-                .write(&[Text("peer-delay "), delay, Text("\nconfirmed\n")]);
+            self.tape
+                .append(&[Text("peer-delay "), delay, Text("\nconfirmed\n")]);
+            return;
         }
         if !self.is_qlog() {
-            return Ok(());
+            return;
         }
-        self.tape.write(&[Text(HEADER)])?;
+        self.tape.append(&[Text(HEADER)]);
         self.event(
             0,
             "transport:parameters_set",
@@ -106,32 +106,32 @@ impl Teller {
                 Number(max_ack_delay),
                 Text("e-6"),
             ],
-        )?;
+        );
         self.event(
             0,
             "connectivity:connection_state_updated",
             &[Text("\"new\":\"handshake_confirmed\"")],
-        )
+        );
     }
 
     /// Records that a datagram is asked for, with window and pacer or without.
-    pub fn asks(&mut self, now: u64, is_paced: bool) -> Result<(), Ending> {
+    pub fn asks(&mut self, now: u64, is_paced: bool) {
         if !self.is_script() {
-            return Ok(());
+            return;
         }
-        self.tape.write(&[
+        self.tape.append(&[
             Text("transmit data "),
             Number(now),
             Text(" "),
             Number(u64::from(self.size)),
             Text(if is_paced { " 1\n" } else { " 0\n" }),
-        ])
+        ]);
     }
 
     /// Records that the pacer delays it.
-    pub fn delayed(&mut self, now: u64, until: u64) -> Result<(), Ending> {
+    pub fn delayed(&mut self, now: u64, until: u64) {
         if !self.is_qlog() {
-            return Ok(());
+            return;
         }
         self.event(
             now,
@@ -141,34 +141,29 @@ impl Teller {
                 Number(until.saturating_sub(now)),
                 Text("e-6"),
             ],
-        )
+        );
     }
 
     /// Records that a packet is to be sent, with an item or without, and that its ACK frame has this largest number.
-    pub fn sends(
-        &mut self,
-        now: u64,
-        largest: Option<u64>,
-        item: Option<u64>,
-    ) -> Result<(), Ending> {
+    pub fn sends(&mut self, now: u64, largest: Option<u64>, item: Option<u64>) {
         if !self.is_script() {
-            return Ok(());
+            return;
         }
-        self.tape.write(&[
+        self.tape.append(&[
             Text("send data "),
             Number(now),
             Text(" "),
             Number(u64::from(self.size)),
             Text(" 1 "),
-        ])?;
+        ]);
         match largest {
-            Some(largest) => self.tape.write(&[Number(largest)])?,
-            None => self.tape.write(&[Text("-")])?,
+            Some(largest) => self.tape.append(&[Number(largest)]),
+            None => self.tape.append(&[Text("-")]),
         }
         if let Some(item) = item {
-            self.tape.write(&[Text(" "), Number(item)])?;
+            self.tape.append(&[Text(" "), Number(item)]);
         }
-        self.tape.write(&[Text("\n")])
+        self.tape.append(&[Text("\n")]);
     }
 
     /// Records that a packet was sent.
@@ -179,163 +174,158 @@ impl Teller {
         frame: Option<&Frame>,
         item: Option<u64>,
         is_paced: bool,
-    ) -> Result<(), Ending> {
+    ) {
         if !self.is_qlog() {
-            return Ok(());
+            return;
         }
-        self.begin(now, "transport:packet_sent")?;
-        self.tape.write(&[
+        self.begin(now, "transport:packet_sent");
+        self.tape.append(&[
             Text("\"header\":{\"packet_type\":\"1RTT\",\"packet_number\":"),
             Number(number),
             Text("},\"raw\":{\"length\":"),
             Number(u64::from(self.size)),
             Text("},\"frames\":["),
-        ])?;
+        ]);
         if let Some(frame) = frame {
-            self.ack_frame(frame)?;
-            self.tape.write(&[Text(",")])?;
+            self.ack_frame(frame);
+            self.tape.append(&[Text(",")]);
         }
-        self.content(item)?;
-        self.tape.write(&[Text(if is_paced {
+        self.content(item);
+        self.tape.append(&[Text(if is_paced {
             "]}}\n"
         } else {
             "],\"is_paced\":false}}\n"
-        })])
+        })]);
     }
 
-    fn content(&mut self, item: Option<u64>) -> Result<(), Ending> {
+    fn content(&mut self, item: Option<u64>) {
         match item {
-            Some(item) => self.tape.write(&[
+            Some(item) => self.tape.append(&[
                 Text("{\"frame_type\":\"stream\",\"stream_id\":0,\"offset\":"),
                 Number(item.saturating_mul(u64::from(self.size))),
                 Text(",\"length\":"),
                 Number(u64::from(self.size)),
                 Text("}"),
             ]),
-            None => self.tape.write(&[Text("{\"frame_type\":\"ping\"}")]),
+            None => self.tape.append(&[Text("{\"frame_type\":\"ping\"}")]),
         }
     }
 
     /// Records that a packet arrived.
-    pub fn hears(&mut self, now: u64, number: u64) -> Result<(), Ending> {
+    pub fn hears(&mut self, now: u64, number: u64) {
         if !self.is_script() {
-            return Ok(());
+            return;
         }
-        self.tape.write(&[
+        self.tape.append(&[
             Text("received data "),
             Number(now),
             Text(" "),
             Number(number),
             Text(" 0\n"),
-        ])
+        ]);
     }
 
     /// Records that a duplicate was dropped, whose frames are not read.
-    pub fn dropped(&mut self, now: u64, number: u64) -> Result<(), Ending> {
+    pub fn dropped(&mut self, now: u64, number: u64) {
         if !self.is_qlog() {
-            return Ok(());
+            return;
         }
-        self.arrival(now, number)?;
-        self.tape.write(&[Text("]}}\n")])
+        self.arrival(now, number);
+        self.tape.append(&[Text("]}}\n")]);
     }
 
     /// Records that an ACK was received.
-    pub fn received(
-        &mut self,
-        now: u64,
-        packet: &AckPacket,
-        app_limited: bool,
-    ) -> Result<(), Ending> {
+    pub fn received(&mut self, now: u64, packet: &AckPacket, app_limited: bool) {
         match self.form {
-            Form::Figures => Ok(()),
+            Form::Figures => {}
             Form::Script => self.ack_line(now, &packet.frame, app_limited),
             Form::Qlog => self.ack_event(now, packet, app_limited),
         }
     }
 
-    fn ack_line(&mut self, now: u64, frame: &Frame, app_limited: bool) -> Result<(), Ending> {
-        self.tape.write(&[
+    fn ack_line(&mut self, now: u64, frame: &Frame, app_limited: bool) {
+        self.tape.append(&[
             Text("ack data "),
             Number(now),
             Text(" "),
             Number(frame.delay),
             Text(if app_limited { " 1" } else { " 0" }),
-        ])?;
+        ]);
         for (first, last) in frame.ranges.iter().copied() {
             self.tape
-                .write(&[Text(" "), Number(first), Text(" "), Number(last)])?;
+                .append(&[Text(" "), Number(first), Text(" "), Number(last)]);
         }
         if let Some(counts) = &frame.ecn {
-            self.tape.write(&[
+            self.tape.append(&[
                 Text(" ecn "),
                 Number(counts.ect0),
                 Text(" "),
                 Number(counts.ect1),
                 Text(" "),
                 Number(counts.ce),
-            ])?;
+            ]);
         }
-        self.tape.write(&[Text("\n")])
+        self.tape.append(&[Text("\n")]);
     }
 
     /// Begins the event of a packet that arrived, up to its frames.
-    fn arrival(&mut self, now: u64, number: u64) -> Result<(), Ending> {
-        self.begin(now, "transport:packet_received")?;
-        self.tape.write(&[
+    fn arrival(&mut self, now: u64, number: u64) {
+        self.begin(now, "transport:packet_received");
+        self.tape.append(&[
             Text("\"header\":{\"packet_type\":\"1RTT\",\"packet_number\":"),
             Number(number),
             Text("},\"frames\":["),
-        ])
+        ]);
     }
 
-    fn ack_event(&mut self, now: u64, packet: &AckPacket, app_limited: bool) -> Result<(), Ending> {
-        self.arrival(now, packet.number)?;
-        self.ack_frame(&packet.frame)?;
-        self.tape.write(&[Text(if app_limited {
+    fn ack_event(&mut self, now: u64, packet: &AckPacket, app_limited: bool) {
+        self.arrival(now, packet.number);
+        self.ack_frame(&packet.frame);
+        self.tape.append(&[Text(if app_limited {
             "],\"app_limited\":true}}\n"
         } else {
             "]}}\n"
-        })])
+        })]);
     }
 
-    fn ack_frame(&mut self, frame: &Frame) -> Result<(), Ending> {
-        self.tape.write(&[
+    fn ack_frame(&mut self, frame: &Frame) {
+        self.tape.append(&[
             Text("{\"frame_type\":\"ack\",\"ack_delay\":"),
             Number(frame.delay),
             Text("e-6,\"acked_ranges\":["),
-        ])?;
+        ]);
         let mut is_first = true;
         for (first, last) in frame.ranges.iter().rev().copied() {
-            self.tape.write(&[
+            self.tape.append(&[
                 Text(if is_first { "[" } else { ",[" }),
                 Number(first),
                 Text(","),
                 Number(last),
                 Text("]"),
-            ])?;
+            ]);
             is_first = false;
         }
-        self.tape.write(&[Text("]")])?;
+        self.tape.append(&[Text("]")]);
         if let Some(counts) = &frame.ecn {
-            self.tape.write(&[
+            self.tape.append(&[
                 Text(",\"ect0\":"),
                 Number(counts.ect0),
                 Text(",\"ect1\":"),
                 Number(counts.ect1),
                 Text(",\"ce\":"),
                 Number(counts.ce),
-            ])?;
+            ]);
         }
-        self.tape.write(&[Text("}")])
+        self.tape.append(&[Text("}")]);
     }
 
     /// Records that the loss detection timer is processed.
-    pub fn expires(&mut self, now: u64) -> Result<(), Ending> {
+    pub fn expires(&mut self, now: u64) {
         match self.form {
-            Form::Figures => Ok(()),
+            Form::Figures => {}
             Form::Script => self
                 .tape
-                .write(&[Text("timeout "), Number(now), Text("\n")]),
+                .append(&[Text("timeout "), Number(now), Text("\n")]),
             Form::Qlog => {
                 self.timer = None;
                 self.event(
@@ -348,9 +338,9 @@ impl Teller {
     }
 
     /// Records the losses of a pass, below this largest acknowledged number.
-    pub fn lost(&mut self, now: u64, losses: &Losses, largest: u64) -> Result<(), Ending> {
+    pub fn lost(&mut self, now: u64, losses: &Losses, largest: u64) {
         if !self.is_qlog() {
-            return Ok(());
+            return;
         }
         for number in losses.numbers.iter().copied() {
             self.event(
@@ -365,7 +355,7 @@ impl Teller {
                         "},\"trigger\":\"reordering_threshold\""
                     }),
                 ],
-            )?;
+            );
         }
         match losses.congestion {
             Some(_) if losses.is_persistent => self.turns(
@@ -374,20 +364,20 @@ impl Teller {
                 ",\"trigger\":\"persistent_congestion\"",
             ),
             Some(_) => self.turns(now, "recovery", ""),
-            None => Ok(()),
+            None => {}
         }
     }
 
     /// Records that the controller reacts to packets that were marked as congested (RFC 9002, 7.1).
-    pub fn marked(&mut self, now: u64) -> Result<(), Ending> {
+    pub fn marked(&mut self, now: u64) {
         if !self.is_qlog() {
-            return Ok(());
+            return;
         }
-        self.turns(now, "recovery", ",\"trigger\":\"ECN\"")
+        self.turns(now, "recovery", ",\"trigger\":\"ECN\"");
     }
 
     /// Records that the controller is in another state.
-    fn turns(&mut self, now: u64, state: &'static str, why: &'static str) -> Result<(), Ending> {
+    fn turns(&mut self, now: u64, state: &'static str, why: &'static str) {
         let old = self.state;
         self.state = state;
         self.event(
@@ -401,45 +391,45 @@ impl Teller {
                 Text("\""),
                 Text(why),
             ],
-        )
+        );
     }
 
     /// Records that the retransmission queue is taken.
-    pub fn takes(&mut self) -> Result<(), Ending> {
+    pub fn takes(&mut self) {
         if !self.is_script() {
-            return Ok(());
+            return;
         }
-        self.tape.write(&[Text("take-pending data\n")])
+        self.tape.append(&[Text("take-pending data\n")]);
     }
 
     /// Records that a probe's contents are requested.
-    pub fn probes(&mut self) -> Result<(), Ending> {
+    pub fn probes(&mut self) {
         if !self.is_script() {
-            return Ok(());
+            return;
         }
-        self.tape.write(&[Text("probe data\n")])
+        self.tape.append(&[Text("probe data\n")]);
     }
 
     /// Records that these items were taken.
-    pub fn taken(&mut self, now: u64, items: &[u64]) -> Result<(), Ending> {
+    pub fn taken(&mut self, now: u64, items: &[u64]) {
         if !self.is_qlog() {
-            return Ok(());
+            return;
         }
-        self.begin(now, "recovery:marked_for_retransmit")?;
-        self.tape.write(&[Text("\"frames\":[")])?;
+        self.begin(now, "recovery:marked_for_retransmit");
+        self.tape.append(&[Text("\"frames\":[")]);
         let mut is_first = true;
         for item in items.iter().copied() {
             if !is_first {
-                self.tape.write(&[Text(",")])?;
+                self.tape.append(&[Text(",")]);
             }
             is_first = false;
-            self.content(Some(item))?;
+            self.content(Some(item));
         }
-        self.tape.write(&[Text("]}}\n")])
+        self.tape.append(&[Text("]}}\n")]);
     }
 
     /// Records what is in flight, after a packet was sent.
-    pub fn flies(&mut self, now: u64, metrics: &Metrics) -> Result<(), Ending> {
+    pub fn flies(&mut self, now: u64, metrics: &Metrics) {
         self.event(
             now,
             "recovery:metrics_updated",
@@ -449,14 +439,14 @@ impl Teller {
                 Text(",\"packets_in_flight\":"),
                 Number(metrics.flight.1),
             ],
-        )
+        );
     }
 
     /// Records the state of the path, after an ACK or a timeout.
-    pub fn stands(&mut self, now: u64, metrics: &Metrics) -> Result<(), Ending> {
+    pub fn stands(&mut self, now: u64, metrics: &Metrics) {
         let [smoothed, variance, least, latest] = metrics.rtt;
-        self.begin(now, "recovery:metrics_updated")?;
-        self.tape.write(&[
+        self.begin(now, "recovery:metrics_updated");
+        self.tape.append(&[
             Text("\"bytes_in_flight\":"),
             Number(metrics.flight.0),
             Text(",\"packets_in_flight\":"),
@@ -474,17 +464,17 @@ impl Teller {
             Text("e-6,\"latest_rtt\":"),
             Number(latest),
             Text("e-6"),
-        ])?;
+        ]);
         if metrics.ssthresh < u64::MAX {
             self.tape
-                .write(&[Text(",\"ssthresh\":"), Number(metrics.ssthresh)])?;
+                .append(&[Text(",\"ssthresh\":"), Number(metrics.ssthresh)]);
         }
-        self.tape.write(&[Text("}}\n")])?;
-        self.goes_on(now, metrics)
+        self.tape.append(&[Text("}}\n")]);
+        self.goes_on(now, metrics);
     }
 
     /// Records the controller's state, if the window changed.
-    fn goes_on(&mut self, now: u64, metrics: &Metrics) -> Result<(), Ending> {
+    fn goes_on(&mut self, now: u64, metrics: &Metrics) {
         let grows = metrics.window > self.window;
         self.window = metrics.window;
         let state = if metrics.window < metrics.ssthresh {
@@ -493,23 +483,23 @@ impl Teller {
             "congestion_avoidance"
         };
         if grows && state != self.state {
-            return self.turns(now, state, "");
+            self.turns(now, state, "");
         }
-        Ok(())
     }
 
     /// Records the loss detection timer, if it changed.
-    pub fn timed(&mut self, now: u64, timer: Option<u64>, is_loss: bool) -> Result<(), Ending> {
+    pub fn timed(&mut self, now: u64, timer: Option<u64>, is_loss: bool) {
         if timer == self.timer {
-            return Ok(());
+            return;
         }
         self.timer = timer;
         let Some(moment) = timer else {
-            return self.event(
+            self.event(
                 now,
                 "recovery:timer_updated",
                 &[Text("\"event_type\":\"cancelled\"")],
             );
+            return;
         };
         self.event(
             now,
@@ -523,7 +513,7 @@ impl Teller {
                 Number(moment.saturating_sub(now)),
                 Text("e-6"),
             ],
-        )
+        );
     }
 }
 

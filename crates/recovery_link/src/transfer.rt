@@ -27,11 +27,10 @@ impl Transfer {
         Ok(Transfer { flows, link })
     }
 
-    fn begin(&mut self, settings: &Settings) -> Result<(), Ending> {
+    fn begin(&mut self, settings: &Settings) {
         for flow in self.flows.iter_mut() {
-            flow.begin(settings)?;
+            flow.begin(settings);
         }
-        Ok(())
     }
 
     /// Returns when something happens next, unless all items are acknowledged.
@@ -69,7 +68,7 @@ impl Transfer {
 
     /// Runs the transfer, up to the last ACK or to the given time. Returns when it ended.
     fn run<W: Write>(&mut self, settings: &Settings, output: &mut W) -> Result<u64, Ending> {
-        self.begin(settings)?;
+        self.begin(settings);
         let mut now = 0;
         // Bounded, here and in `flow.rt` and `link.rt`, as `MAX_CALLS` of recovery_replay: no measure shows that the
         // loop ends.

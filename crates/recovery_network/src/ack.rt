@@ -22,7 +22,7 @@ pub struct Arrival {
 }
 
 /// An ACK frame.
-#[derive(Drop)]
+#[derive(Clone, Drop)]
 pub struct Frame {
     /// The ACK delay, in nanoseconds.
     pub delay: u64,
@@ -33,30 +33,11 @@ pub struct Frame {
 }
 
 /// The ACK frame of a packet.
-#[derive(Drop)]
+#[derive(Clone, Drop)]
 pub struct AckPacket {
     /// The number of the packet.
     pub number: u64,
     pub frame: Frame,
-}
-
-impl AckPacket {
-    /// Returns the same packet.
-    pub fn again(&self, alloc: Global) -> Result<AckPacket, AllocError> {
-        let mut ranges = Vec::with_capacity(alloc, self.frame.ranges.len())?;
-        for range in self.frame.ranges.iter().copied() {
-            ranges.push(range)?;
-        }
-        let frame = Frame {
-            delay: self.frame.delay,
-            ranges,
-            ecn: self.frame.ecn,
-        };
-        Ok(AckPacket {
-            number: self.number,
-            frame,
-        })
-    }
 }
 
 /// How many packets were received that may be marked, and how many of them are (RFC 3168).
