@@ -14,7 +14,7 @@ pub fn choice_in(word: &str, yes: &str, no: &str) -> Option<bool> {
 }
 
 /// Returns a number if it is within these bounds.
-pub fn within(least: u64, number: u64, most: u64) -> Option<u64> {
+fn within(least: u64, number: u64, most: u64) -> Option<u64> {
     if least <= number && number <= most {
         Some(number)
     } else {
@@ -22,44 +22,56 @@ pub fn within(least: u64, number: u64, most: u64) -> Option<u64> {
     }
 }
 
-/// Parses a number of nanoseconds, or of `ns`, `us`, `ms` or `s`.
-pub fn span_in(word: &str) -> Option<u64> {
+/// Parses a number of nanoseconds, or of `ns`, `us`, `ms` or `s`, within these bounds.
+pub fn span_in(word: &str, least: u64, most: u64) -> Option<u64> {
+    let (number, unit) = split_span(word);
+    within(least, times(number, unit)?, most)
+}
+
+/// Splits a span into its number and its unit, in nanoseconds: 1 if it has none.
+fn split_span(word: &str) -> (&str, u64) {
     if let Some(number) = word.strip_suffix("ns") {
-        return times(number, 1);
+        return (number, 1);
     }
     if let Some(number) = word.strip_suffix("us") {
-        return times(number, 1_000);
+        return (number, 1_000);
     }
     if let Some(number) = word.strip_suffix("ms") {
-        return times(number, 1_000_000);
+        return (number, 1_000_000);
     }
     match word.strip_suffix("s") {
-        Some(number) => times(number, 1_000_000_000),
-        None => times(word, 1),
+        Some(number) => (number, 1_000_000_000),
+        None => (word, 1),
     }
 }
 
-/// Parses a number, or one of `k`, `M` or `G`.
-pub fn count_in(word: &str) -> Option<u64> {
+/// Parses a number, or one of `k`, `M` or `G`, within these bounds.
+pub fn count_in(word: &str, least: u64, most: u64) -> Option<u64> {
+    let (number, factor) = split_count(word);
+    within(least, times(number, factor)?, most)
+}
+
+/// Splits a count into its number and its factor: 1 if it has none.
+fn split_count(word: &str) -> (&str, u64) {
     if let Some(number) = word.strip_suffix("k") {
-        return times(number, 1_000);
+        return (number, 1_000);
     }
     if let Some(number) = word.strip_suffix("M") {
-        return times(number, 1_000_000);
+        return (number, 1_000_000);
     }
     match word.strip_suffix("G") {
-        Some(number) => times(number, 1_000_000_000),
-        None => times(word, 1),
+        Some(number) => (number, 1_000_000_000),
+        None => (word, 1),
     }
 }
 
 /// Parses parts of a million, or `%`.
 pub fn share_in(word: &str) -> Option<u64> {
-    let share = match word.strip_suffix("%") {
-        Some(number) => times(number, 10_000)?,
-        None => times(word, 1)?,
+    let (number, unit) = match word.strip_suffix("%") {
+        Some(number) => (number, 10_000),
+        None => (word, 1),
     };
-    within(0, share, MILLION)
+    within(0, times(number, unit)?, MILLION)
 }
 
 /// Parses a number of units, each a power of ten, with a fraction or without: none if it is not a whole number of the

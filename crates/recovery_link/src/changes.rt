@@ -1,5 +1,5 @@
 //! The changes of a link over time, as arguments: `rate@2s=1M`, `delay@2s=50ms`.
-use crate::amounts::{count_in, span_in, within};
+use crate::amounts::{count_in, span_in};
 use recovery_network::schedule::Change;
 use std::alloc::{AllocFailed, Global};
 
@@ -49,11 +49,11 @@ fn quantity_in(name: &str) -> Option<Quantity> {
 fn change_in(word: &str) -> Option<(Quantity, Change)> {
     let (name, value) = word.split_once('=')?;
     let (name, time) = name.split_once('@')?;
-    let from = within(0, span_in(time)?, MOST)?;
+    let from = span_in(time, 0, MOST)?;
     let quantity = quantity_in(name)?;
     let value = match quantity {
-        Quantity::Rate => within(1, count_in(value)?, MOST)?,
-        Quantity::Delay => within(0, span_in(value)?, MOST)?,
+        Quantity::Rate => count_in(value, 1, MOST)?,
+        Quantity::Delay => span_in(value, 0, MOST)?,
     };
     Some((quantity, Change { from, value }))
 }

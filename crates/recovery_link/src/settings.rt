@@ -1,5 +1,5 @@
 //! The settings that the arguments choose.
-use crate::amounts::{choice_in, count_in, share_in, span_in, within};
+use crate::amounts::{choice_in, count_in, share_in, span_in};
 use crate::changes::is_change;
 use recovery_network::draws::Chances;
 use recovery_script_syntax::words::number_in;
@@ -18,6 +18,57 @@ const LONGEST_BURST: u64 = 1_000_000;
 
 /// The most flows.
 const MOST_FLOWS: u64 = 64;
+
+// Hints that several arguments share.
+const OF_WINDOW: &str = "newreno, cubic, or a window in bytes, as in controller=cubic";
+
+const OF_CHOICE: &str = "yes or no, as in paced=no";
+
+const OF_BYTES: &str = "1 to 1000G bytes, as in bytes=1.5M";
+
+const OF_TIME: &str = "1 to 1000s in ns, us, ms or s, as in until=2.5s";
+
+const OF_DELAY: &str = "0 to 1000s in ns, us, ms or s, as in delay=12.5ms";
+
+const OF_SHARE: &str = "0 to 1000000 of a million, or 0% to 100%, as in loss=0.5%";
+
+const OF_BURST: &str = "0 to 1M packets, as in burst=4";
+
+/// What the value of each argument may be.
+static HINTS: [(&str, &str); 29] = [
+    ("controller", OF_WINDOW),
+    ("rival", OF_WINDOW),
+    ("paced", OF_CHOICE),
+    ("ecn", OF_CHOICE),
+    ("aqm", "tail or codel, as in aqm=codel"),
+    ("bytes", OF_BYTES),
+    ("chunk", OF_BYTES),
+    ("rate", "1 to 1000G bits a second, as in rate=10M"),
+    ("size", "40 to 1200 bytes, as in size=600"),
+    ("queue", "1200 to 1000G bytes, as in queue=62.5k"),
+    ("flows", "1 to 64, as in flows=2"),
+    ("seed", "0 to 18446744073709551615, as in seed=7"),
+    ("until", OF_TIME),
+    ("interval", OF_TIME),
+    ("delay", OF_DELAY),
+    ("late", OF_DELAY),
+    ("ack-delay", OF_DELAY),
+    ("stagger", OF_DELAY),
+    ("every", OF_DELAY),
+    ("target", OF_DELAY),
+    ("loss", OF_SHARE),
+    ("reorder", OF_SHARE),
+    ("duplicate", OF_SHARE),
+    ("ack-loss", OF_SHARE),
+    ("ack-reorder", OF_SHARE),
+    ("ack-duplicate", OF_SHARE),
+    ("burst", OF_BURST),
+    ("ack-burst", OF_BURST),
+    (
+        "schedule",
+        "with a schedule there is only controller=, as in controller=cubic",
+    ),
+];
 
 /// What is written on standard output.
 #[derive(Clone, Copy, PartialEq, Eq)]
@@ -131,182 +182,102 @@ pub fn settings_of(words: &[String]) -> Result<Settings, usize> {
     let mut settings = USUAL;
     let mut place = 0;
     for word in words {
-        settings = match with_word(settings, word.as_str()) {
-            Some(settings) => settings,
-            None => return Err(place),
-        };
+        if set(&mut settings, word.as_str()).is_none() {
+            return Err(place);
+        }
         place = place.saturating_add(1);
     }
     Ok(settings)
 }
 
-fn with_word(settings: Settings, word: &str) -> Option<Settings> {
+/// Sets what an argument chooses. Returns `None` if it cannot be read.
+fn set(settings: &mut Settings, word: &str) -> Option<()> {
     match word {
-        "--script" => Some(Settings {
-            form: Form::Script,
-            ..settings
-        }),
-        "--qlog" => Some(Settings {
-            form: Form::Qlog,
-            ..settings
-        }),
-        _ if is_change(word) => Some(settings),
+        "--script" => settings.form = Form::Script,
+        "--qlog" => settings.form = Form::Qlog,
+        _ if is_change(word) => {}
         _ => {
             let (name, value) = word.split_once('=')?;
-            with_value(settings, name, value)
+            return set_value(settings, name, value);
         }
     }
+    Some(())
 }
 
-fn with_value(settings: Settings, name: &str, value: &str) -> Option<Settings> {
+fn set_value(settings: &mut Settings, name: &str, value: &str) -> Option<()> {
     match name {
-        "controller" => Some(Settings {
-            window: window_in(value)?,
-            ..settings
-        }),
-        "paced" => Some(Settings {
-            is_paced: choice_in(value, "yes", "no")?,
-            ..settings
-        }),
-        "bytes" => Some(Settings {
-            bytes: within(1, count_in(value)?, MOST)?,
-            ..settings
-        }),
-        "size" => Some(Settings {
-            size: size_in(value)?,
-            ..settings
-        }),
-        "ack-delay" => Some(Settings {
-            ack_delay: within(0, span_in(value)?, MOST)?,
-            ..settings
-        }),
-        "seed" => Some(Settings {
-            seed: number_in(value.as_bytes())?,
-            ..settings
-        }),
-        "until" => Some(Settings {
-            until: within(1, span_in(value)?, MOST)?,
-            ..settings
-        }),
-        "schedule" => Some(settings),
-        _ => with_flow(settings, name, value),
+        "controller" => settings.window = window_in(value)?,
+        "paced" => settings.is_paced = choice_in(value, "yes", "no")?,
+        "bytes" => settings.bytes = count_in(value, 1, MOST)?,
+        "size" => settings.size = size_in(value)?,
+        "ack-delay" => settings.ack_delay = span_in(value, 0, MOST)?,
+        "seed" => settings.seed = number_in(value.as_bytes())?,
+        "until" => settings.until = span_in(value, 1, MOST)?,
+        "schedule" => {}
+        _ => return set_flow(settings, name, value),
     }
+    Some(())
 }
 
-fn with_flow(settings: Settings, name: &str, value: &str) -> Option<Settings> {
+fn set_flow(settings: &mut Settings, name: &str, value: &str) -> Option<()> {
     match name {
-        "flows" => Some(Settings {
-            flows: within(1, count_in(value)?, MOST_FLOWS)?,
-            ..settings
-        }),
-        "rival" => Some(Settings {
-            rival: Some(window_in(value)?),
-            ..settings
-        }),
-        "stagger" => Some(Settings {
-            stagger: within(0, span_in(value)?, MOST)?,
-            ..settings
-        }),
-        "chunk" => Some(Settings {
-            chunk: within(1, count_in(value)?, MOST)?,
-            ..settings
-        }),
-        "every" => Some(Settings {
-            every: within(0, span_in(value)?, MOST)?,
-            ..settings
-        }),
-        _ => with_manager(settings, name, value),
+        "flows" => settings.flows = count_in(value, 1, MOST_FLOWS)?,
+        "rival" => settings.rival = Some(window_in(value)?),
+        "stagger" => settings.stagger = span_in(value, 0, MOST)?,
+        "chunk" => settings.chunk = count_in(value, 1, MOST)?,
+        "every" => settings.every = span_in(value, 0, MOST)?,
+        _ => return set_manager(settings, name, value),
     }
+    Some(())
 }
 
-fn with_manager(settings: Settings, name: &str, value: &str) -> Option<Settings> {
+fn set_manager(settings: &mut Settings, name: &str, value: &str) -> Option<()> {
     match name {
-        "aqm" => Some(Settings {
-            is_managed: choice_in(value, "codel", "tail")?,
-            ..settings
-        }),
-        "target" => Some(Settings {
-            target: within(0, span_in(value)?, MOST)?,
-            ..settings
-        }),
-        "interval" => Some(Settings {
-            interval: within(1, span_in(value)?, MOST)?,
-            ..settings
-        }),
-        "ecn" => Some(Settings {
-            is_ect: choice_in(value, "yes", "no")?,
-            ..settings
-        }),
-        _ => Some(Settings {
-            link: with_shape(settings.link, name, value)?,
-            ..settings
-        }),
+        "aqm" => settings.is_managed = choice_in(value, "codel", "tail")?,
+        "target" => settings.target = span_in(value, 0, MOST)?,
+        "interval" => settings.interval = span_in(value, 1, MOST)?,
+        "ecn" => settings.is_ect = choice_in(value, "yes", "no")?,
+        _ => return set_shape(&mut settings.link, name, value),
     }
+    Some(())
 }
 
-fn with_shape(link: Shape, name: &str, value: &str) -> Option<Shape> {
+fn set_shape(link: &mut Shape, name: &str, value: &str) -> Option<()> {
     match name {
-        "rate" => Some(Shape {
-            rate: within(1, count_in(value)?, MOST)?,
-            ..link
-        }),
-        "delay" => Some(Shape {
-            delay: within(0, span_in(value)?, MOST)?,
-            ..link
-        }),
-        "queue" => Some(Shape {
-            queue: within(u64::from(LARGEST), count_in(value)?, MOST)?,
-            ..link
-        }),
-        "late" => Some(Shape {
-            late: within(0, span_in(value)?, MOST)?,
-            ..link
-        }),
-        _ => match name.strip_prefix("ack-") {
-            Some(name) => Some(Shape {
-                back: with_chance(link.back, name, value)?,
-                ..link
-            }),
-            None => Some(Shape {
-                there: with_chance(link.there, name, value)?,
-                ..link
-            }),
-        },
+        "rate" => link.rate = count_in(value, 1, MOST)?,
+        "delay" => link.delay = span_in(value, 0, MOST)?,
+        "queue" => link.queue = count_in(value, u64::from(LARGEST), MOST)?,
+        "late" => link.late = span_in(value, 0, MOST)?,
+        _ => {
+            return match name.strip_prefix("ack-") {
+                Some(name) => set_chance(&mut link.back, name, value),
+                None => set_chance(&mut link.there, name, value),
+            };
+        }
     }
+    Some(())
 }
 
-fn with_chance(chances: Chances, name: &str, value: &str) -> Option<Chances> {
+fn set_chance(chances: &mut Chances, name: &str, value: &str) -> Option<()> {
     match name {
-        "loss" => Some(Chances {
-            loss: share_in(value)?,
-            ..chances
-        }),
-        "burst" => Some(Chances {
-            burst: within(0, count_in(value)?, LONGEST_BURST)?,
-            ..chances
-        }),
-        "reorder" => Some(Chances {
-            reorder: share_in(value)?,
-            ..chances
-        }),
-        "duplicate" => Some(Chances {
-            duplicate: share_in(value)?,
-            ..chances
-        }),
-        _ => None,
+        "loss" => chances.loss = share_in(value)?,
+        "burst" => chances.burst = count_in(value, 0, LONGEST_BURST)?,
+        "reorder" => chances.reorder = share_in(value)?,
+        "duplicate" => chances.duplicate = share_in(value)?,
+        _ => return None,
     }
+    Some(())
 }
 
 fn size_in(word: &str) -> Option<u16> {
-    let size = within(SMALLEST, count_in(word)?, u64::from(LARGEST))?;
-    u16::try_from(size).ok()
+    u16::try_from(count_in(word, SMALLEST, u64::from(LARGEST))?).ok()
 }
 
 fn window_in(word: &str) -> Option<Window> {
     match word {
         "newreno" => Some(Window::NewReno),
         "cubic" => Some(Window::Cubic),
-        _ => Some(Window::Fixed(within(1, count_in(word)?, MOST)?)),
+        _ => Some(Window::Fixed(count_in(word, 1, MOST)?)),
     }
 }
 
@@ -327,25 +298,10 @@ pub fn hint_of(word: &str) -> &'static str {
     if let Some((name, _)) = name.split_once('@') {
         return hint_of_change(name);
     }
-    match name {
-        "controller" | "rival" => "newreno, cubic, or a window in bytes, as in controller=cubic",
-        "paced" | "ecn" => "yes or no, as in paced=no",
-        "aqm" => "tail or codel, as in aqm=codel",
-        "bytes" | "chunk" => "1 to 1000G bytes, as in bytes=1.5M",
-        "rate" => "1 to 1000G bits a second, as in rate=10M",
-        "size" => "40 to 1200 bytes, as in size=600",
-        "queue" => "1200 to 1000G bytes, as in queue=62.5k",
-        "flows" => "1 to 64, as in flows=2",
-        "seed" => "0 to 18446744073709551615, as in seed=7",
-        "until" | "interval" => "1 to 1000s in ns, us, ms or s, as in until=2.5s",
-        "delay" | "late" | "ack-delay" | "stagger" | "every" | "target" => {
-            "0 to 1000s in ns, us, ms or s, as in delay=12.5ms"
+    for (known, hint) in &HINTS {
+        if *known == name {
+            return *hint;
         }
-        "loss" | "reorder" | "duplicate" | "ack-loss" | "ack-reorder" | "ack-duplicate" => {
-            "0 to 1000000 of a million, or 0% to 100%, as in loss=0.5%"
-        }
-        "burst" | "ack-burst" => "0 to 1M packets, as in burst=4",
-        "schedule" => "with a schedule there is only controller=, as in controller=cubic",
-        _ => "there is no such name; --help has all",
     }
+    "there is no such name; --help has all"
 }

@@ -107,26 +107,36 @@ fn first_from(packets: &SentPackets<ItemQueue>, number: u64) -> Option<u64> {
     }
 }
 
-/// Of packets 0 to 4, three are removed: the others are iterated over by number, and are ack-eliciting until they are
-/// removed.
+/// Returns packets 0 to 4 without 0, 2 and 3.
+fn one_and_four(rt: &impl Abort, alloc: Global) -> PacketSpace<ItemQueue> {
+    let mut space = sent(rt, alloc, 5);
+    for number in [0, 2, 3] {
+        holds(rt, takes(&mut space, number), number);
+    }
+    space
+}
+
+/// For packets 1 and 4: the first at or above a number.
+static FROM: [(u64, Option<u64>); 6] = [
+    (0, Some(1)),
+    (1, Some(1)),
+    (2, Some(4)),
+    (4, Some(4)),
+    (5, None),
+    (u64::MAX, None),
+];
+
+fn assert_first(rt: &impl Abort, packets: &SentPackets<ItemQueue>) {
+    for (number, first) in &FROM {
+        holds(rt, first_from(packets, *number) == *first, *number);
+    }
+}
+
+/// Packets are iterated over by number, and are ack-eliciting until they are removed.
 #[test]
 fn packets_are_gone_over_upward(rt: HostRuntime) {
-    static FROM: [(u64, Option<u64>); 6] = [
-        (0, Some(1)),
-        (1, Some(1)),
-        (2, Some(4)),
-        (4, Some(4)),
-        (5, None),
-        (u64::MAX, None),
-    ];
-    let mut space = sent(&rt, rt.alloc(), 5);
-    for number in [0, 2, 3] {
-        holds(&rt, takes(&mut space, number), number);
-    }
-    for (number, first) in &FROM {
-        let found = first_from(&space.sent_packets, *number);
-        holds(&rt, found == *first, *number);
-    }
+    let mut space = one_and_four(&rt, rt.alloc());
+    assert_first(&rt, &space.sent_packets);
     holds(&rt, space.sent_packets.has_ack_eliciting(), 1);
     holds(&rt, takes(&mut space, 1) && takes(&mut space, 4), 4);
     holds(&rt, !space.sent_packets.has_ack_eliciting(), 4);
@@ -169,20 +179,24 @@ fn first_between(packets: &SentPackets<ItemQueue>, from: u64, end: u64) -> Optio
     }
 }
 
+fn assert_between(rt: &impl Abort, packets: &SentPackets<ItemQueue>) {
+    for (from, end, first) in &RANGES {
+        holds(rt, first_between(packets, *from, *end) == *first, *from);
+    }
+}
+
+fn assert_numbers(rt: &impl Abort, packets: &SentPackets<ItemQueue>) {
+    for (number, is_tracked, below) in &NUMBERS {
+        holds(rt, packets.get(*number).is_some() == *is_tracked, *number);
+        holds(rt, covers(packets.count_below(*number), *below), *number);
+    }
+}
+
 #[test]
 fn packets_are_looked_up(rt: HostRuntime) {
-    let mut space = sent(&rt, rt.alloc(), 5);
-    for number in [0, 2, 3] {
-        holds(&rt, takes(&mut space, number), number);
-    }
-    let packets = &space.sent_packets;
-    for (from, end, first) in &RANGES {
-        holds(&rt, first_between(packets, *from, *end) == *first, *from);
-    }
-    for (number, is_tracked, below) in &NUMBERS {
-        holds(&rt, packets.get(*number).is_some() == *is_tracked, *number);
-        holds(&rt, covers(packets.count_below(*number), *below), *number);
-    }
+    let space = one_and_four(&rt, rt.alloc());
+    assert_between(&rt, &space.sent_packets);
+    assert_numbers(&rt, &space.sent_packets);
 }
 
 type Slots = SlotQueue<SentPacket<ItemQueue>>;

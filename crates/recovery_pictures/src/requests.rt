@@ -88,11 +88,8 @@ fn connection_of(words: &[String]) -> Request {
     };
     let mut place = Place::Seed;
     for word in words {
-        match with_word(choice, place, word.as_str()) {
-            Some((with, next)) => {
-                choice = with;
-                place = next;
-            }
+        match add(&mut choice, place, word.as_str()) {
+            Some(next) => place = next,
             None => return Request::Unknown,
         }
     }
@@ -102,46 +99,28 @@ fn connection_of(words: &[String]) -> Request {
     }
 }
 
-/// Adds an argument to the choices.
-fn with_word(choice: Choice, place: Place, word: &str) -> Option<(Choice, Place)> {
+/// Adds an argument to the choices. Returns the place of the next one, or `None` if the argument is invalid.
+fn add(choice: &mut Choice, place: Place, word: &str) -> Option<Place> {
     match word.split_once('=') {
-        Some(("over", window)) => {
-            let over = Some(over_of(window)?);
-            Some((Choice { over, ..choice }, place))
-        }
-        Some((name, moment)) => {
-            let moment = number_in(moment.as_bytes())?;
-            Some((with_moment(choice, name, moment)?, place))
-        }
-        None => with_number(choice, place, word),
+        Some(("over", window)) => choice.over = Some(over_of(window)?),
+        Some(("from", time)) => choice.from = Some(number_in(time.as_bytes())?),
+        Some(("to", time)) => choice.to = Some(number_in(time.as_bytes())?),
+        Some(_) => return None,
+        None => return add_positional(choice, place, word),
     }
+    Some(place)
 }
 
-/// Adds a named time to the choices.
-fn with_moment(choice: Choice, name: &str, moment: u64) -> Option<Choice> {
-    match name {
-        "from" => Some(Choice {
-            from: Some(moment),
-            ..choice
-        }),
-        "to" => Some(Choice {
-            to: Some(moment),
-            ..choice
-        }),
-        _ => None,
-    }
-}
-
-/// Adds a seed to the choices, or after it a window.
-fn with_number(choice: Choice, place: Place, word: &str) -> Option<(Choice, Place)> {
+/// Adds a seed to the choices, or after it a window. Returns `None` if the word is neither.
+fn add_positional(choice: &mut Choice, place: Place, word: &str) -> Option<Place> {
     match place {
         Place::Seed => {
-            let seed = seed_in(word)?;
-            Some((Choice { seed, ..choice }, Place::Window))
+            choice.seed = seed_in(word)?;
+            Some(Place::Window)
         }
         Place::Window => {
-            let window = named(word)?;
-            Some((Choice { window, ..choice }, Place::End))
+            choice.window = named(word)?;
+            Some(Place::End)
         }
         Place::End => None,
     }

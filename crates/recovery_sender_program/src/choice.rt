@@ -46,31 +46,31 @@ pub struct Choice {
 }
 
 /// Parses a side, and whether its handshake is complete.
-fn side_in(word: &[u8]) -> Option<(Side, bool)> {
+fn side_in(word: &str) -> Option<(Side, bool)> {
     match word {
-        b"client" => Some((Side::Client, false)),
-        b"server" => Some((Side::Server, false)),
-        b"established" => Some((Side::Client, true)),
+        "client" => Some((Side::Client, false)),
+        "server" => Some((Side::Server, false)),
+        "established" => Some((Side::Client, true)),
         _ => None,
     }
 }
 
 /// Parses a seed, or none if the word is `-`.
-fn seed_in(word: &[u8]) -> Option<Option<u64>> {
+fn seed_in(word: &str) -> Option<Option<u64>> {
     match word {
-        b"-" => Some(None),
-        _ => Some(Some(number_in(word)?)),
+        "-" => Some(None),
+        _ => Some(Some(number_in(word.as_bytes())?)),
     }
 }
 
 /// Parses CUBIC's window, or one above zero; NewReno's if the word is `-`.
-fn window_in(word: &[u8]) -> Option<Window> {
+fn window_in(word: &str) -> Option<Window> {
     match word {
-        b"-" => return Some(Window::NewReno),
-        b"cubic" => return Some(Window::Cubic),
+        "-" => return Some(Window::NewReno),
+        "cubic" => return Some(Window::Cubic),
         _ => {}
     }
-    match number_in(word)? {
+    match number_in(word.as_bytes())? {
         0 => None,
         window => Some(Window::Fixed(FixedWindowConfig::new(window))),
     }
@@ -104,7 +104,7 @@ fn settings_in(words: &[String]) -> Option<Settings> {
 /// detection.
 pub fn choice_of(words: &[String]) -> Option<Choice> {
     let (side, rest) = words.split_first()?;
-    let (side, is_established) = side_in(side.as_bytes())?;
+    let (side, is_established) = side_in(side.as_str())?;
     let mut choice = Choice {
         side,
         is_established,
@@ -115,11 +115,11 @@ pub fn choice_of(words: &[String]) -> Option<Choice> {
     let Some((seed, rest)) = rest.split_first() else {
         return Some(choice);
     };
-    choice.seed = seed_in(seed.as_bytes())?;
+    choice.seed = seed_in(seed.as_str())?;
     let Some((window, rest)) = rest.split_first() else {
         return Some(choice);
     };
-    choice.window = window_in(window.as_bytes())?;
+    choice.window = window_in(window.as_str())?;
     if !rest.is_empty() {
         choice.settings = Some(settings_in(rest)?);
     }

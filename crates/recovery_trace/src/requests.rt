@@ -75,109 +75,131 @@ pub enum Request {
 }
 
 /// How many positional arguments were read.
-#[derive(Clone, Copy)]
+#[derive(Clone, Copy, PartialEq, Eq)]
 enum Place {
     Seed,
     Window,
     End,
 }
 
-/// Adds a seed to the choices, if the word is one: a number, or `-` for none.
-fn with_seed(choice: Choice, word: &[u8]) -> Option<Choice> {
-    if word == "-".as_bytes() {
-        return Some(Choice {
-            seed: None,
-            ..choice
-        });
-    }
-    let seed = number_in(word)?;
-    Some(Choice {
-        seed: Some(seed),
-        ..choice
-    })
+/// Whether the controllers were named.
+#[derive(Clone, Copy, PartialEq, Eq)]
+enum Naming {
+    Unnamed,
+    /// The next argument is their name.
+    Next,
+    Named,
 }
 
-/// Adds a window to the choices, if the word is a number above zero and no controllers were named.
-fn with_window(choice: Choice, is_named: bool, word: &[u8]) -> Option<Choice> {
-    if is_named {
-        return None;
-    }
-    match number_in(word)? {
-        0 => None,
-        window => Some(Choice {
-            controllers: Controllers::Fixed(FixedWindowConfig::new(window)),
-            ..choice
-        }),
-    }
+/// The arguments that were read so far.
+#[derive(Drop)]
+struct Arguments {
+    choice: Choice,
+    place: Place,
+    naming: Naming,
 }
 
-/// Adds the named controllers to the choices, if the name is known, there is no window, and none were named before.
-fn with_name(choice: Choice, is_named: bool, word: &[u8]) -> Option<Choice> {
-    if is_named {
-        return None;
+impl Arguments {
+    /// Adds a seed: a number, or `-` for none. Returns `None` if it is invalid.
+    fn add_seed(&mut self, word: &str) -> Option<()> {
+        if word != "-" {
+            self.choice.seed = Some(number_in(word.as_bytes())?);
+        }
+        self.place = Place::Window;
+        Some(())
     }
-    if let Controllers::Fixed(_) = choice.controllers {
-        return None;
-    }
-    let controllers = match word {
-        b"newreno" => Controllers::NewReno,
-        b"cubic" => Controllers::Cubic,
-        _ => return None,
-    };
-    Some(Choice {
-        controllers,
-        ..choice
-    })
-}
 
-/// Adds a positional argument to the choices.
-fn with_word(choice: Choice, place: Place, is_named: bool, word: &[u8]) -> Option<(Choice, Place)> {
-    match place {
-        Place::Seed => Some((with_seed(choice, word)?, Place::Window)),
-        Place::Window => Some((with_window(choice, is_named, word)?, Place::End)),
-        Place::End => None,
+    /// Adds a window above zero, if no controllers were named. Returns `None` if it is invalid.
+    fn add_window(&mut self, word: &str) -> Option<()> {
+        let window = number_in(word.as_bytes())?;
+        if self.naming == Naming::Named || window == 0 {
+            return None;
+        }
+        self.choice.controllers = Controllers::Fixed(FixedWindowConfig::new(window));
+        self.place = Place::End;
+        Some(())
+    }
+
+    /// Adds the name of the controllers, if there is no window. Returns `None` if it is invalid.
+    fn add_name(&mut self, word: &str) -> Option<()> {
+        if self.place == Place::End {
+            return None;
+        }
+        match word {
+            "newreno" => self.choice.controllers = Controllers::NewReno,
+            "cubic" => self.choice.controllers = Controllers::Cubic,
+            _ => return None,
+        }
+        self.naming = Naming::Named;
+        Some(())
+    }
+
+    /// Adds `--controller`, if no controllers were named. Returns `None` if they were.
+    fn expect_name(&mut self) -> Option<()> {
+        if self.naming == Naming::Named {
+            return None;
+        }
+        self.naming = Naming::Next;
+        Some(())
+    }
+
+    /// Adds an argument. Returns `None` if it is invalid.
+    fn add(&mut self, word: &str) -> Option<()> {
+        if self.naming == Naming::Next {
+            return self.add_name(word);
+        }
+        match word {
+            "--state" => self.choice.shows = Shown::States,
+            "--qlog" => self.choice.shows = Shown::Qlog,
+            "--strict" => self.choice.is_strict = true,
+            "--controller" => return self.expect_name(),
+            word => {
+                return match self.place {
+                    Place::Seed => self.add_seed(word),
+                    Place::Window => self.add_window(word),
+                    Place::End => None,
+                };
+            }
+        }
+        Some(())
+    }
+
+    /// Returns the request that the next argument makes by itself, if it does.
+    fn asked_by(&self, word: &str) -> Option<Request> {
+        if self.naming == Naming::Next {
+            return None;
+        }
+        match word {
+            "--help" => Some(Request::Help),
+            "--version" => Some(Request::Version),
+            _ => None,
+        }
     }
 }
 
 /// Returns the request that the arguments make. Options may be anywhere; the first of `--help` and `--version` decides,
 /// unless an argument before it is invalid.
 pub fn request_of(words: &[String]) -> Request {
-    let mut choice = Choice {
-        seed: None,
-        controllers: Controllers::NewReno,
-        shows: Shown::Answers,
-        is_strict: false,
+    let mut arguments = Arguments {
+        choice: Choice {
+            seed: None,
+            controllers: Controllers::NewReno,
+            shows: Shown::Answers,
+            is_strict: false,
+        },
+        place: Place::Seed,
+        naming: Naming::Unnamed,
     };
-    let mut place = Place::Seed;
-    let mut is_name = false;
-    let mut is_named = false;
     for word in words {
-        match word.as_bytes() {
-            name if is_name => match with_name(choice, is_named, name) {
-                Some(with) => {
-                    choice = with;
-                    is_name = false;
-                    is_named = true;
-                }
-                None => return Request::Unknown,
-            },
-            b"--help" => return Request::Help,
-            b"--version" => return Request::Version,
-            b"--state" => choice.shows = Shown::States,
-            b"--qlog" => choice.shows = Shown::Qlog,
-            b"--strict" => choice.is_strict = true,
-            b"--controller" => is_name = true,
-            word => match with_word(choice, place, is_named, word) {
-                Some((with, next)) => {
-                    choice = with;
-                    place = next;
-                }
-                None => return Request::Unknown,
-            },
+        if let Some(request) = arguments.asked_by(word.as_str()) {
+            return request;
+        }
+        if arguments.add(word.as_str()).is_none() {
+            return Request::Unknown;
         }
     }
-    if is_name {
+    if arguments.naming == Naming::Next {
         return Request::Unknown;
     }
-    Request::Trace(choice)
+    Request::Trace(arguments.choice)
 }

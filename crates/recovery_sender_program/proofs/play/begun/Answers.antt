@@ -1,4 +1,4 @@
-use Rattle.std.proofs.Common.{ℕ, true, false, ap, ◌∙◌}
+use Rattle.std.proofs.Common.{true, false, ap, ◌∙◌}
 use Rattle.std.proofs.lemmas.Result.{IfOk-weaker}
 use Rattle.rand_core.specs.Pcg32Seed.{pcg32_seed}
 use Rattle.rand_core.specs.Steps.{stream_of, steps_u32}
@@ -9,14 +9,14 @@ use Rattle.recovery_sender_program.proofs.play.begun.Goals as goal
 
 pub returns-then-choice : goal.returns-then-choice
 returns-then-choice g c =
-    IfOk-weaker c.established.result _ _ (begins_as c.args.choice c.args.factory c.peer_at.result c.peer_at.ensures
+    IfOk-weaker _ _ _ (begins_as _ _ _ c.peer_at.ensures
     _ _ _ c.settings_of-config.ensures c.from_nanos-start.ensures (ap (stream_of (steps_u32 pcg32))
-    (c.seed_from_u64-rng.ensures ∙ ap (λ (n : ℕ). pcg32_of_seed (pcg32_seed 16 n)) c.unwrap_or.ensures)
-    ∙ words_of_seed c.args.choice.seed) true c.if-choice.true) c.established.ensures.begins
+    (c.seed_from_u64-rng.ensures ∙ ap (λ n. pcg32_of_seed (pcg32_seed 16 n)) c.unwrap_or.ensures)
+    ∙ words_of_seed _) true c.if-choice.true) c.established.ensures.begins
 
 pub returns-else-choice : goal.returns-else-choice
 returns-else-choice g c =
-    IfOk-weaker c.new.result _ _ (begins_as c.args.choice c.args.factory c.peer_at.result c.peer_at.ensures
+    IfOk-weaker _ _ _ (begins_as _ _ _ c.peer_at.ensures
     _ _ _ c.settings_of-config.ensures c.from_nanos-start.ensures (ap (stream_of (steps_u32 pcg32))
-    (c.seed_from_u64-rng.ensures ∙ ap (λ (n : ℕ). pcg32_of_seed (pcg32_seed 16 n)) c.unwrap_or.ensures)
-    ∙ words_of_seed c.args.choice.seed) false c.if-choice.false) c.new.ensures.begins
+    (c.seed_from_u64-rng.ensures ∙ ap (λ n. pcg32_of_seed (pcg32_seed 16 n)) c.unwrap_or.ensures)
+    ∙ words_of_seed _) false c.if-choice.false) c.new.ensures.begins
