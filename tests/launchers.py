@@ -95,9 +95,9 @@ class Place:
 def waited_for(happens):
     """Whether something happens in time."""
     end = time.time() + SECONDS
-    while not happens() and time.time() < end:
+    while not (happened := happens()) and time.time() < end:
         time.sleep(0.02)
-    return happens()
+    return happened
 
 
 def works_in(place, call):
