@@ -42,7 +42,7 @@ def counts(name):
 
 
 def edits(name):
-    """The wrong bodies of a crate: those that rt ci tries one by one, and those that tests/wrong_bodies.py tries together."""
+    """The wrong bodies of a crate: those of must-fail/, which the toolchain can try too, and the others."""
     return sorted(it for room in ("must-fail", "wrong") for it in (CRATES / name / room).glob("*.edit"))
 
 
@@ -101,7 +101,7 @@ def missed_edits(name):
     for edit in edits(name):
         text = turned = function = ""
         for word, _, rest in (line.partition(": ") for line in edit.read_text().splitlines()):
-            if word == "fn":
+            if word in ("fn", "# fn"):
                 function = rest.rpartition("::")[2]
             elif word == "file":
                 file = edit.parent.parent / rest

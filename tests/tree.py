@@ -186,6 +186,17 @@ def alone(who, tell):
             file.truncate(0)
 
 
+@contextlib.contextmanager
+def locked(crate):
+    """No rt works in a crate's folder meanwhile."""
+    folder = os.open(crate, os.O_RDONLY)
+    try:
+        fcntl.flock(folder, fcntl.LOCK_EX)
+        yield
+    finally:
+        os.close(folder)
+
+
 def stop_on_signals():
     """The signals that ask for an end interrupt, as ctrl-C does, but where whoever started this chose to ignore them."""
     for it in signal.SIGTERM, signal.SIGHUP:

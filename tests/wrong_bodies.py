@@ -1,6 +1,7 @@
 #!/usr/bin/env python3
-"""Tries the wrong bodies crates/NAME/wrong/*.edit: the prover must refuse each, by a goal of the function that it turns. Those of a crate are tried in
-one check of the functions that they turn. Each other function keeps its contract alone there, since a proof rests on no other function's body.
+"""Tries the wrong bodies of crates/NAME/wrong and crates/NAME/must-fail: the prover must refuse each, by a goal of the function that it turns. Those of a
+crate are tried in one check of the functions that they turn. Each other function keeps its contract alone there, since a proof rests on no other function's
+body.
 If two turn one function, the second turns a copy of it, with its contract and its answers. Such a function has one copy more, in which nothing is turned:
 if that is not proved, the copies show nothing, and count as not refused. A line 'goal: NAME' says by which goal a body must be refused: then the answers
 to the function's other goals are set aside, and so are the goals that a line 'also: NAME, NAME' lists, on which a search would take its time.
@@ -10,8 +11,9 @@ to the function's other goals are set aside, and so are the goals that a line 'a
     tests/wrong_bodies.py recovery_ids next__     those of its wrong bodies whose names begin so
     tests/wrong_bodies.py --goals recovery_ids    says of each by which goals it is refused
 
-Such a file is written as those of must-fail/, behind a line 'fn: queue::CidQueue::next' with the function's name as a check prints it, and perhaps one with
-its goal. What the crate stands on has to be built (./prove NAME)."""
+Such a file is written as the toolchain has it, whose rt must-fail tries those of must-fail/ too, each by itself. A line 'fn: queue::CidQueue::next', in
+must-fail/ '# fn: ..', names the function as a check prints it; without one, it is the function that has the text. What the crate stands on has to be
+built (./prove NAME)."""
 import argparse
 import copy
 import pathlib
@@ -44,8 +46,8 @@ class Edit:
 
     def __init__(self, path):
         self.name, self.function, self.goal, self.also, self.pairs, file, old = path.stem, None, None, [], [], None, None
-        for word, _, rest in (line.partition(": ") for line in path.read_text().splitlines()):
-            if word == "fn":
+        for word, _, rest in (line.partition(":" if line == "new:" else ": ") for line in path.read_text().splitlines()):
+            if word in ("fn", "# fn"):
                 self.function = rest
             elif word == "goal":
                 self.goal = rest
@@ -57,6 +59,11 @@ class Edit:
                 old = rest
             elif word == "new":
                 self.pairs.append((file, old, rest))
+        if not self.turns():
+            raise tree.Unfit(f"{path}: it turns nothing")
+        self.function = self.function or function_with(path.parent.parent, *self.pairs[0][:2])
+        if not self.function:
+            raise tree.Unfit(f"{path}: no function has its text, so a line 'fn: ' has to name one")
 
     def unturned(self):
         """The same function with nothing turned."""
@@ -123,12 +130,24 @@ def body(lines, start):
     return slice(opens + 1, lines.index(f"{indent}}}", opens)) if lines[opens].endswith("{") else None
 
 
+def functions_of(crate, file):
+    """The lines of a file, and its functions, as `functions` gives them."""
+    types = {found[1]: at for _, at, every in texts(crate / "src") for found in map(TYPE.match, every) if found}
+    lines, at = next(((every, at) for it, at, every in texts(crate / "src") if it == crate / file), ([], ()))
+    return lines, list(functions(lines, at, types))
+
+
+def function_with(crate, file, text):
+    """The function that a text is in, as a check prints its name."""
+    lines, found = functions_of(crate, file)
+    line = next((number for number, it in enumerate(lines) if text in it), -1)
+    return next(("::".join(parts) for parts, start in reversed(found) if start <= line), None)
+
+
 def place(crate, file, function):
     """The lines of a file, and which of them are a function's, its comments and attributes among them; nothing if it is in a trait or on one line."""
-    lines = (crate / file).read_text().splitlines()
-    types = {found[1]: at for _, at, every in texts(crate / "src") for found in map(TYPE.match, every) if found}
-    at = next(at for it, at, _ in texts(crate / "src") if it == crate / file)
-    start = next((number for parts, number in functions(lines, at, types) if "::".join(parts) == function), None)
+    lines, found = functions_of(crate, file)
+    start = next((number for parts, number in found if "::".join(parts) == function), None)
     inside = start and body(lines, start)
     if not inside:
         return lines, None
@@ -274,8 +293,8 @@ def try_all(crates, prefix, says_goals, tests):
     """Tries those of these crates whose names begin so, what takes long first."""
     work = []
     for crate in crates:
-        edits = map(Edit, sorted((ROOT / "crates" / crate / "wrong").glob(f"{prefix}*.edit")))
-        work += [(crate, it) for it in rounds(ROOT / "crates" / crate, edits)]
+        files = [it for room in ("must-fail", "wrong") for it in sorted((ROOT / "crates" / crate / room).glob(f"{prefix}*.edit"))]
+        work += [(crate, it) for it in rounds(ROOT / "crates" / crate, [Edit(it) for it in files])]
     work.sort(key=lambda it: -len(it[1]))
     missing = {it for crate, _ in work for it in tree.below(crate) if not tree.is_newer(tree.rlib(it), it)}
     if missing:
