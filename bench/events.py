@@ -1,7 +1,6 @@
 #!/usr/bin/env python3
 """Counts the instructions (valgrind's callgrind) of an event through the Rust crate, and of the same call on the layer in plain Rust
-(tests/careful/layer.rs): the difference between twice as many calls and once as many, divided by the calls. `acked` and `lost` follow
-a send, which is subtracted.
+(tests/careful/layer.rs). It runs N and 2N calls, and divides the difference by N. `acked` and `lost` follow a send, which is subtracted.
 
     bench/events.py              each kind
     bench/events.py send lost    these

@@ -31,7 +31,7 @@ SOURCE = ROOT / "bench" / "frames.rs"
 FLIGHTS = [1, 100, 1_000, 10_000, 100_000]
 RANGES = [1, 100, 500]
 QUICK = [1, 10_000], [500]
-KEPT = 1_001  # so many more numbers are forgotten than packets are in flight
+KEPT = 1_001  # this many more numbers are forgotten than packets are in flight
 FRAMES = 10
 
 PACKAGE = """[package]

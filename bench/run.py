@@ -7,13 +7,13 @@ A '*' marks instructions that differ by more than 5% between the numbers of line
 
     bench/run.py                          every input at 10^4, 10^5 and 10^6 lines (half an hour)
     bench/run.py --quick                  a few inputs at 10^4 and 10^5 lines (a minute)
-    bench/run.py in_order --lines 1000    these inputs, so many lines
-    bench/run.py --jobs 4                 four runs side by side: the figures are the same
-    bench/run.py --careful                beside three programs of plain Rust over the same inputs (tests/careful), at 10^5 lines:
-                                          instructions, and processor time, which is the least of some runs in turn on one
-                                          processor (a quarter of an hour). All must print the same. `careful` is written for speed,
-                                          and answers each line as it is read; `listed` is written so too, but keeps a list of all
-                                          events and one of all replies, as ours does, of elements as large; `plain` is as it comes
+    bench/run.py in_order --lines 1000    the named inputs at this number of lines
+    bench/run.py --jobs 4                 four runs at a time: the figures are the same
+    bench/run.py --careful                also three programs of plain Rust over the same inputs (tests/careful), at 10^5 lines:
+                                          instructions, and processor time, the shortest of some runs in turn on one processor
+                                          (a quarter of an hour). All must print the same. `careful` is written for speed, and
+                                          answers each line as it is read. `listed` is too, but has a list of all events and one
+                                          of all replies, as ours does, with elements of the same size. `plain` is simple code
 """
 import argparse
 import concurrent.futures
@@ -45,7 +45,7 @@ MOST_IDS = 64  # that one line issues
 
 @dataclass
 class Input:
-    """Lines without end, of which so many are the beginning."""
+    """An endless sequence of lines, of which the first `beginning` are not counted."""
     name: str
     lines: Callable[[], Iterator[str]]
     beginning: int = 0
@@ -84,7 +84,7 @@ def in_blocks(chance):
 
 
 def at_random(chance):
-    """Every number once, any of the 16 least that did not come yet: some come so late that they count as duplicates."""
+    """Every number once, each time one of the 16 smallest that were not received yet: some are so late that they count as duplicates."""
     waiting = list(range(16))
     for number in itertools.count(16):
         place = chance.randrange(16)
@@ -131,14 +131,14 @@ def remote_ids():
 
 
 def next_ids():
-    """The peer issues ids in order and retires none; this end takes the next one each time."""
+    """The peer issues IDs in order and retires none; the local endpoint takes the next one each time."""
     yield new_id(0, 0)
     for i in itertools.count(1):
         yield new_id(i, 0)
         yield "next-id"
 
 
-# ---- ids of this end
+# ---- IDs of the local endpoint
 
 def issue_ids(i, first, count):
     return f"issue-ids {moment(i)} {first} {count}"
@@ -150,7 +150,7 @@ def issued_lines(unretired):
 
 
 def local_ids(unretired, place_of):
-    """So many ids are not retired (the beginning). Then the peer retires one, another is issued, and a deadline passes."""
+    """`unretired` IDs are not retired (the beginning). Then the peer retires one, another is issued, and a deadline passes."""
     chance = random.Random(3)
     for i in range(issued_lines(unretired)):
         first = 1 + i * MOST_IDS
@@ -177,7 +177,7 @@ def any_place(chance, unretired):
 
 
 def refused_ids():
-    """64 ids that do not go on where they should."""
+    """64 IDs that do not follow the last one."""
     for i in itertools.count():
         yield issue_ids(i, 10**6, MOST_IDS)
 
@@ -209,7 +209,7 @@ def congestion():
 
 
 def connection():
-    """As on a connection, whose path is validated (the beginning): two packets come in, two go out and are acknowledged, and a
+    """As on a connection with a validated path (the beginning): two packets are received, two are sent and acknowledged, and a
     datagram is transmitted."""
     yield "validated current"
     for i in itertools.count():
@@ -254,7 +254,7 @@ def probes():
 
 
 def black_holes():
-    """Packets of 1,300 bytes go out, every other one is lost, and all losses of seven packets are told: four bursts each time."""
+    """Of eight packets of 1,300 bytes every other one is lost, and the losses are reported together: four bursts each time."""
     number = 0
     for i in itertools.count():
         for _ in range(8):
@@ -270,7 +270,7 @@ def black_holes():
 # ---- what is sent again, and paths
 
 def queues():
-    """A packet with two items is lost, what was in it waits, and is handed out; a probe finds the next packet's."""
+    """A packet with two items is lost, its items wait, and are taken; a probe finds those of the next packet."""
     for i in itertools.count():
         yield f"send data {moment(i)} 1200 1 - {10**6 + i} {10**6 + i + 1}"
         yield f"send data {moment(i)} 1200 1 - {10**6 + i + 2}"
@@ -359,8 +359,8 @@ def in_pairs(first, second):
 
 # ---- lines of all kinds at random, as tests/alike.py draws them
 
-# which are ten times as frequent as the others; no space is discarded, since nothing would happen in it any more, and among
-# hostile ones no ids are issued, whose line may pass the last number and not be read
+# The kinds of lines that are ten times as frequent as the others. No space is discarded, since nothing would happen in it
+# afterwards. Hostile inputs issue no IDs: their line could exceed the last number, and would not be read.
 KINDS = {
     "all": [],
     "acks": ["received", "acks-sent", "ack-delay-timeout", "ack-frequency", "check-ack"],
@@ -375,7 +375,7 @@ KINDS = {
 
 
 class Sensible(alike.Lines):
-    """Without what is rare: moments that step back, numbers at the ends of their ranges."""
+    """Lines without rare values: times that step back, numbers at the ends of their ranges."""
 
     def is_rare(self, one_in):
         return False
@@ -450,7 +450,7 @@ def instructions(script, folder, program=PROGRAM):
 
 
 def peak_memory(script, folder):
-    """The most memory that the process held at once, in bytes."""
+    """The peak memory of the process, in bytes."""
     report = folder / "peak"
     with open(script, "rb") as lines:
         subprocess.run(["time", "-f", "%M", "-o", report, PROGRAM], stdin=lines, stdout=subprocess.DEVNULL, check=True)
@@ -458,7 +458,7 @@ def peak_memory(script, folder):
 
 
 def costs(an_input, count):
-    """Instructions and bytes for each of so many lines behind the beginning."""
+    """Instructions and bytes for each line, over this number of lines after the beginning."""
     with tempfile.TemporaryDirectory() as name:
         folder = pathlib.Path(name)
         script = folder / "script"
@@ -488,7 +488,7 @@ def row(an_input, counts, pool):
 WIDTH = max(len(each.name) for each in INPUTS)
 
 
-# ---- beside plain Rust
+# ---- compared with plain Rust
 
 def built(folder):
     """Our program, and those of tests/careful."""
@@ -509,7 +509,7 @@ def processor_time(script, program):
 
 
 def least_times(script, programs, runs):
-    """Of each program the least of so many runs; they run in turn."""
+    """The shortest of several runs of each program; they run in turn."""
     times = [[processor_time(script, program) for program in programs] for _ in range(runs)]
     return [min(each) for each in zip(*times)]
 
@@ -565,8 +565,8 @@ def main():
     options.add_argument("--lines", type=int, nargs="+", help="how many lines are counted")
     options.add_argument("--quick", action="store_true")
     options.add_argument("--jobs", type=int, default=1)
-    options.add_argument("--careful", action="store_true", help="beside programs of plain Rust: careful, listed and plain")
-    options.add_argument("--runs", type=int, default=15, help="of which the least time is taken")
+    options.add_argument("--careful", action="store_true", help="also runs programs of plain Rust: careful, listed and plain")
+    options.add_argument("--runs", type=int, default=15, help="how many, of which the shortest time counts")
     chosen = options.parse_args()
     for tool in ["valgrind", "rustc"] if chosen.careful else ["valgrind", "time"]:
         if not shutil.which(tool):

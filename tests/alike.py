@@ -1,9 +1,9 @@
 #!/usr/bin/env python3
-"""Plays random scripts on the proved program and on the same job in plain Rust (tests/careful), which share no code: all that they
-write and the status have to be the same. A script is all that its seed says: `--show SEED` prints it.
+"""Plays random scripts on the proved program and on a program in plain Rust (tests/careful) that does the same and shares no code with
+it. Both outputs and the status must be the same. A seed determines a script: `--show SEED` prints it.
 
     tests/alike.py                     300 scripts
-    tests/alike.py 5000 --seed 1000    so many, the first of this seed
+    tests/alike.py 5000 --seed 1000    5000 scripts, the first from this seed
 """
 import argparse
 import pathlib
@@ -24,7 +24,7 @@ SPACES = ["initial", "handshake", "data"]
 TIMERS = tree.timers()
 MILLISECOND = 10**6
 SECOND = 10**9
-MOST_FAULTS = 5  # that are told
+MOST_FAULTS = 5  # that are shown
 
 
 class Lines:
@@ -54,7 +54,7 @@ class Lines:
         return min(LAST, max(0, number + self.chance.randint(-spread, spread // 8)))
 
     def moment(self):
-        """A moment, mostly later than the last."""
+        """A time, mostly later than the last."""
         if self.is_rare(100):
             return self.one_of(0, self.now, LAST)
         self.now += self.one_of(0, 1, 1000, MILLISECOND, 10 * MILLISECOND, 100 * MILLISECOND, self.below(SECOND))
@@ -195,7 +195,7 @@ def played(program, words, lines, error):
 
 
 def fault(program, other, script, seed, error):
-    """Where the two part, if they do."""
+    """The first difference of the two, if they differ."""
     words, lines = script(seed)
     ours, theirs = played(program, words, lines, error), played(other, words, lines, error)
     if ours == theirs:
@@ -206,7 +206,7 @@ def fault(program, other, script, seed, error):
 
 
 def main(about, program, source, script, error=str):
-    """Plays the scripts of so many seeds on a program and on a source of tests/careful."""
+    """Plays the scripts of these seeds on a program and on a source of tests/careful."""
     options = argparse.ArgumentParser(description=about, formatter_class=argparse.RawDescriptionHelpFormatter)
     options.add_argument("count", nargs="?", type=int, default=300)
     options.add_argument("--seed", type=int, default=0)

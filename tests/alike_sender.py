@@ -3,7 +3,7 @@
 does with events. Some scripts have a seed of skipped numbers and a fixed window.
 
     tests/alike_sender.py                     300 scripts
-    tests/alike_sender.py 5000 --seed 1000    so many, the first of this seed
+    tests/alike_sender.py 5000 --seed 1000    5000 scripts, the first from this seed
 """
 import re
 import sys
@@ -61,7 +61,7 @@ class Calls(Lines):
         yield from ["confirmed"] if not self.is_rare(3) else []
 
     def moment(self):
-        """A moment, mostly later than the last."""
+        """A time, mostly later than the last."""
         if self.is_rare(60):
             return self.one_of(0, LAST, max(0, self.now - self.below(SECOND)), max(0, self.now - self.below(SECOND)))
         self.now += self.one_of(*self.steps)
@@ -71,7 +71,7 @@ class Calls(Lines):
         return self.one_of(*self.spaces)
 
     def gives_number(self, space, size):
-        """A packet goes out; whether it arrives, mostly as the one before it, and no large one where none is carried."""
+        """A packet is sent. Losses come in bursts, and a packet that is larger than the path carries never arrives."""
         if not self.is_rare(3):
             self.burst = self.chance.random() < self.loss
         if not self.burst and size <= self.carried:
@@ -129,7 +129,7 @@ class Calls(Lines):
         return f"timeout {min(LAST, self.moment() + self.one_of(0, 0, 10 * MILLISECOND, 100 * MILLISECOND, SECOND, 3 * SECOND))}"
 
     def discard(self):
-        """Mostly a space in which no more is said."""
+        """The end of a space, mostly with no later call in it."""
         space = self.one_of("initial", "handshake") if not self.is_rare(20) else "data"
         if not self.is_rare(9):
             self.spaces = [it for it in self.spaces if it != space] or ["data"]
@@ -168,7 +168,7 @@ def script(seed):
 
 
 def number(error):
-    """The number of the line that cannot be read. The program also says which word it is (tests/sender.py), and plain Rust does not."""
+    """The number of the line that cannot be read. The program also names the word (tests/sender.py), and plain Rust does not."""
     return re.sub(r"\A(line \d+): .*\n\Z", r"\1", error)
 
 

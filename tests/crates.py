@@ -1,8 +1,14 @@
 #!/usr/bin/env python3
-"""Reads crates.txt beside the crates: each crate stands there once, and below the crates that it names; each is named in docs/ARCHITECTURE.md; they are
-few for their code, since each costs the gate a reading of all that is below it; no line of their code but an import is longer than 120 columns, and none of
-a clause longer than 100; what a wrong body turns stands once in its file, which else shows only where the gate tries it; each type is imported by one path, of
-the crate that declares it; and each name is declared once, but for those of homonyms.txt. With --table it prints what each crate has."""
+"""Compares crates.txt with the crates, and reads their code:
+
+- crates.txt lists each crate once, after its dependencies, and docs/ARCHITECTURE.md names it;
+- the crates are few for their code, since for each the gate reads all that is below it;
+- no line of code except an import is longer than 120 columns, and no line of a clause longer than 100;
+- the text that a wrong body replaces occurs once in its file (otherwise only the gate's own try of it would show that);
+- each type is imported by one path, from the crate that declares it;
+- each name is declared once, except those of homonyms.txt.
+
+With --table it prints what each crate has."""
 import argparse
 import re
 import sys
@@ -42,7 +48,7 @@ def counts(name):
 
 
 def edits(name):
-    """The wrong bodies of a crate: those of must-fail/, which the toolchain can try too, and the others."""
+    """The wrong bodies of a crate: those of must-fail/, which the toolchain can try too, and those of wrong/."""
     return sorted(it for room in ("must-fail", "wrong") for it in (CRATES / name / room).glob("*.edit"))
 
 
@@ -57,7 +63,7 @@ def out_of_place(crates):
     for name, below in crates:
         for it in below:
             if it not in above:
-                yield f"crates.txt: {name} names {it}, which does not stand above it"
+                yield f"crates.txt: {name} names {it}, which is not listed above it"
         above.add(name)
 
 
@@ -97,7 +103,7 @@ def function_at(text, place):
 
 
 def missed_edits(name):
-    """Edits of a crate that a change of the code has left behind."""
+    """Edits of a crate that no longer fit the code."""
     for edit in edits(name):
         text = turned = function = ""
         for word, _, rest in (line.partition(": ") for line in edit.read_text().splitlines()):
@@ -107,12 +113,12 @@ def missed_edits(name):
                 file = edit.parent.parent / rest
                 text = file.read_text() if file.is_file() else ""
                 if function and not re.search(rf"\bfn {function}\b", text):
-                    yield f"{edit.relative_to(ROOT)}: its file has no function {function}: say in its line 'fn:' which one it turns, as a check prints it"
+                    yield f"{edit.relative_to(ROOT)}: its file has no function {function}: its line 'fn:' must name the changed function as a check prints it"
             elif word == "old":
                 turned = rest
                 if text.count(turned) != 1:
-                    yield (f"{edit.relative_to(ROOT)}: {turned.strip()!r} stands {text.count(turned)} times in its file, and not once: turn a value of the code "
-                           "as it is now, and see which goal refuses it (rt must-fail, tests/wrong_bodies.py --goals)")
+                    yield (f"{edit.relative_to(ROOT)}: {turned.strip()!r} occurs {text.count(turned)} times in its file, and not once: change a value of today's "
+                           "code, and see which goal rejects it (tests/wrong_bodies.py --goals)")
                 elif function and function_at(text, text.index(turned)) not in (function, None):
                     yield f"{edit.relative_to(ROOT)}: its line is in {function_at(text, text.index(turned))}, and 'fn:' says {function}: nothing would be tried"
             elif word == "new":
@@ -147,7 +153,7 @@ def import_paths(names):
             elif (importer, name) in left:
                 seen.add((importer, name))
             else:
-                yield f"{importer} imports {path}, which {crate} only hands on: import it from the crate that declares {name}"
+                yield f"{importer} imports {path}, which {crate} only re-exports: import it from the crate that declares {name}"
     for (_, name), found in paths.items():
         if len(found) > 1:
             yield f"{name} is imported by more than one path: {', '.join(f'{path} in {it}' for path, it in found.items())}: use one"
@@ -155,7 +161,7 @@ def import_paths(names):
 
 
 def homonyms(names):
-    """Names that more than one module declares, but for a type's model in specs of its own crate."""
+    """Names that more than one module declares, except a type's model in the specs of its own crate."""
     places = {}
     for crate in names:
         for room, kind, pattern in (("specs", "antt", DEFINED), ("src", "rt", PUBLIC)):
@@ -170,7 +176,7 @@ def homonyms(names):
 
 
 def main():
-    parser = argparse.ArgumentParser(description=__doc__)
+    parser = argparse.ArgumentParser(description=__doc__, formatter_class=argparse.RawDescriptionHelpFormatter)
     parser.add_argument("--table", action="store_true", help="what each crate has, as a table")
     crates = rows()
     names = [name for name, _ in crates]

@@ -45,7 +45,7 @@ def up(fraction):
 
 
 class Cubic:
-    """A window by RFC 9438, with whole numbers where the library has them."""
+    """A window by RFC 9438, rounded as in the library."""
 
     def __init__(self, window):
         self.window, self.threshold, self.recovery, self.prior = window, None, 0, window
@@ -57,7 +57,7 @@ class Cubic:
         self.k = self.k_in(10**6)
 
     def k_in(self, parts):
-        """K in so many parts of a second (4.2)."""
+        """K, with a second divided into `parts` (4.2)."""
         distance = Fraction(max(self.plateau - self.floor, 0), MTU)
         return cube_root(distance / C * parts**3)
 
@@ -208,7 +208,7 @@ LAST = ["acked data 103000000 2 0", "end-acks 103000000 0 4"]
 
 
 def later(first, count):
-    """So many packets of 1,000 bytes 100 s later, acknowledged after 100 ms."""
+    """The lines for a number of packets of 1,000 bytes, sent 100 s later and acknowledged after 100 ms."""
     numbers = range(first, first + count)
     return ["send data 100103000000 1000 1 -"] * count + [f"acked data 100203000000 {it} 0" for it in numbers]
 

@@ -1,7 +1,7 @@
 #!/usr/bin/env python3
-"""Counts what a reader of Recovery::run has to read: the lines of the definitions that its promises (the fields of Keeps) and its other clauses rest
-on, name by name, without imports, blanks and comments; and the lines of each promise that is read off events and answers alone, whole files. The
-table of docs/DEFINITIONS.md names each file that run rests on.
+"""Counts what a reader of Recovery::run has to read: all definitions that its promises (the fields of StepGuarantees) and its other clauses depend on.
+It counts their lines name by name, without imports, blanks and comments. For each promise about events and answers alone it counts whole files. The table of
+docs/DEFINITIONS.md must name each file with such a definition.
 
     tests/definitions.py            counts, and reads the table
     tests/definitions.py --write    writes the table
@@ -80,7 +80,7 @@ def rests_on(words, every):
 
 
 def promises():
-    """The words of each field of Keeps, which are what run ensures at each event."""
+    """The definitions that each field of StepGuarantees names: what run ensures at each event."""
     text = PAST.read_text()
     names = imports(text.split("\n"))
     fields = re.search(r"^  pub record StepGuarantees .*?\n\n", text, re.M | re.S).group(0)
@@ -89,7 +89,7 @@ def promises():
 
 
 def clauses():
-    """The words of each promise, and of each clause of run that is of the run as a whole."""
+    """The definitions that each promise names, and those that each clause of run about the run as a whole names."""
     yield from promises()
     text = DRIVER.read_text()
     names = imports(text.split("\n"))

@@ -1,10 +1,15 @@
 #!/usr/bin/env python3
-"""Reads the README and the documents as one who looks things up: each link leads to a file, and to the heading that it names; each name in
-backquotes stands in a source of what is described, and `A::b` where A is declared; each clause of run is named in the README and in
-docs/PROMISES.md, and a definition stands in the file that is named beside it; examples stand beside what they print, as in examples/; lines
-are no longer than others here, and all documents together are short; code in fences stands in an example, and pages read well (tests/prose.py). The
-pages of tools/reference have every public item of the crates (tests/reference.py). Names
-of others (the crate that this follows, the toolchain's own, patterns) are listed here, as long as a document has them."""
+"""Checks that what the README and the documents say can be looked up:
+
+- each link leads to a file, and to the heading that it names;
+- each name in backquotes occurs in a source, and `A::b` in the file that declares A;
+- the README and docs/PROMISES.md name each clause of run, and a definition is in the file that its row names;
+- each example is shown with its output, as in examples/, and code in fences is from an example;
+- no line has more than 120 columns, and each row of a table has the cells of its head;
+- all documents together are short, and pages read well (tests/prose.py);
+- the pages of tools/reference have every public item of the crates (tests/reference.py).
+
+Names of others (upstream, the toolchain, patterns) are listed here, as long as a document has them."""
 import os
 import pathlib
 import re
@@ -26,10 +31,10 @@ EXAMPLES = {"rust": ["rust/*/examples/*.rs"], "c": ["rust/c/*.c"], "text": ["rus
 SHOWN = re.compile(r"^`(examples/\w+)\.txt`, and what it prints.*\n\n((?:    .*\n)+)", re.M)
 DEFINED = re.compile(r"^ *(?:(?:unfoldable|abbrev|pub|record|data) )*([^\s(:{]+) *[:({]", re.M)
 DECLARED = re.compile(r"\b(?:struct|enum|trait|type|mod) (\w+)|\bimpl(?:<.*?>)? (?:\w+(?:<.*?>)? for )?(\w+)")
-COMMENTS = {".rt": "//.*", ".rs": "//.*", ".antt": "--.*", ".py": "(?m)^ *#.*"}  # a name that stands in them alone is one of the past
+COMMENTS = {".rt": "//.*", ".rs": "//.*", ".antt": "--.*", ".py": "(?m)^ *#.*"}  # a name that occurs only in them is one of the past
 QUALIFIED = re.compile(r"([A-Z]\w+)(?:<[^>]*>)?::(?:\{([^}]*)\}|(\w+))")
 
-# names in backquotes that stand in no source: what the crate that this follows, Rust or the toolchain calls so, and parts of patterns
+# names in backquotes that no source has: those of upstream, of Rust or of the toolchain, and parts of patterns
 OTHERS = {
     "DECISIONS.md": "circular_buffer",
     "DIFFERENCES.md": "first_packet crypto_stream tinyvec f32 Retransmits ArrayRangeSet::default",
@@ -59,7 +64,7 @@ def is_source(file):
 
 
 class Sources:
-    """The words of the sources and of the names of files, and where each type is declared."""
+    """The words of the sources and of the names of files, and the file that declares each type."""
 
     def __init__(self, files):
         self.words = {word for file in files for word in NAME.findall(str(file))}
@@ -77,7 +82,7 @@ class Sources:
         return len(word) < 3 or word.isupper() or bool(INPUT.match(word)) or word in self.words or (word.endswith("s") and word[:-1] in self.words)
 
     def misses(self, name):
-        """What of `A::b`, or of `A::{b, c}`, stands in no file that declares A."""
+        """What of `A::b`, or of `A::{b, c}`, is in no file that declares A."""
         for owner, group, one in QUALIFIED.findall(name):
             homes = self.homes.get(owner, set())
             if owner in TYPES:
@@ -108,11 +113,11 @@ def faults_in(file, text, sources):
     for name in names:
         for word in NAME.findall(name):
             if word not in others and not sources.has(word):
-                yield f"{file}: `{word}` (in `{name}`) stands in no source"
-        yield from (f"{file}: `{it}` (in `{name}`) stands in no file that declares it" for it in sources.misses(name) if it not in others)
+                yield f"{file}: `{word}` (in `{name}`) is in no source"
+        yield from (f"{file}: `{it}` (in `{name}`) is in no file that declares it" for it in sources.misses(name) if it not in others)
     for word in sorted(others):
         if word not in words or word in sources.words:
-            yield f"tests/documents.py: {word} of {file.name} stands in a source, or the document does not have it: take it out"
+            yield f"tests/documents.py: {word} of {file.name} is in a source, or the document does not have it: remove it from the list"
     for link, anchor in re.findall(r"\]\(([^)#]*)#?([^)]*)\)", text):
         there = (ROOT / file.parent / link) if link else ROOT / file
         if "://" not in link and not (there.exists() and (not anchor or anchor in slugs(there))):
@@ -123,7 +128,7 @@ def faults_in(file, text, sources):
 
 
 def clauses_of_run():
-    """The promises, which are the fields of Keeps, and the clauses that are of the run as a whole."""
+    """The promises, which are the fields of StepGuarantees, and the clauses about the run as a whole."""
     text = (ROOT / "crates" / "quic_recovery" / "src" / "driver.rt").read_text()
     contract = text[text.index("    pub fn run("):]
     keeps = re.search(r"^  pub record StepGuarantees .*?\n\n", (ROOT / "crates" / "recovery_history" / "specs" / "Reachability.antt").read_text(), re.M | re.S).group(0)
@@ -132,7 +137,7 @@ def clauses_of_run():
 
 
 def examples_in(file, text):
-    """What is wrong with each example that is shown: its lines stand beside what they print, as in its two files."""
+    """What is wrong with each example that is shown: a page has its lines and its output, as in its two files."""
     shown = dict(SHOWN.findall(text))
     every = {"README.md": ["examples/received"]}
     if file.parts[0] == "rust":
@@ -150,17 +155,17 @@ def plain(text):
 
 
 def code_in(file, text):
-    """Each block in fences that stands in no example, which is compiled, or in nothing that one prints."""
+    """Each block in fences that is neither from a compiled example nor from an example's output."""
     for language, block in FENCED.findall(text):
         wanted = block.strip("\n").split("\n")
         sources = [it.read_text().split("\n") for glob in EXAMPLES[language] for it in sorted(ROOT.glob(glob))]
         pieces = (lines[at : at + len(wanted)] for lines in sources for at in range(len(lines) - len(wanted) + 1) if wanted[0].strip() in lines[at])
         if not any(plain("\n".join(it)) == plain(block) for it in pieces):
-            yield f"{file}: {wanted[0].strip()!r} and what follows stands so in none of {', '.join(EXAMPLES[language])}: show it as it is now"
+            yield f"{file}: {wanted[0].strip()!r} and what follows is in none of {', '.join(EXAMPLES[language])}: show the code as it is now"
 
 
 def tables_in(file, text):
-    """Each table without a line below its head, as where an empty line parts it, and each row with more or fewer cells than the head."""
+    """Each table without a line below its head, as the rest of one that an empty line splits, and each row with more or fewer cells than the head."""
     for table in re.findall(r"(?:^\|.*\n)+", re.sub(r"\\\|", "/", text), re.M):
         head, *rows = table.splitlines()
         if not rows or not re.fullmatch(r"[|-]+", rows[0]):
@@ -175,8 +180,8 @@ def prose_of(file, text):
 
 
 def misplaced():
-    """Definitions that do not stand in the file that is named beside them: the first word of each row of the first table of docs/DEFINITIONS.md, and
-    that of each row of docs/PROMISES.md."""
+    """Definitions that are not in the file that their row names: the first name of each row of the first table of docs/DEFINITIONS.md, and of each row
+    of docs/PROMISES.md."""
     files = [*ROOT.glob("crates/*/specs/**/*.antt")]
     defined = {(name, it.stem) for it in files for name in DEFINED.findall(it.read_text())}
     table = (ROOT / "docs" / "DEFINITIONS.md").read_text().split("\n## ")[1]
@@ -193,8 +198,8 @@ def misplaced():
 def too_long(texts):
     size = sum(len(it.encode()) for it in texts)
     if size > MOST_BYTES:
-        yield (f"docs: all documents have {size:,} bytes, and not at most {MOST_BYTES:,}: a fact stands in one of them and the others link there, what "
-               "the code or its comments say is not said again, and what was is in git")
+        yield (f"docs: all documents have {size:,} bytes, and not at most {MOST_BYTES:,}: state a fact in one of them and link to it from "
+               "the others, do not repeat what the code or its comments state, and leave the past to git")
 
 
 def main():

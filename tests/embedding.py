@@ -1,7 +1,7 @@
 #!/usr/bin/env python3
-"""Reads docs/EMBEDDING.md beside the program that it walks through: each block of code stands in a source of the program, and each event is
-handed in by the program, or by the sender that it calls, and named on the page. The examples in comments of the crates stand in tests, or in that
-program; what users begin with has one."""
+"""Compares docs/EMBEDDING.md with the program that it walks through: each block of code is in a source of the program. The program, or the
+sender that it calls, passes each event to the library, and the page names each event. The examples in comments of the crates are in tests or in
+that program, and the items that users begin with have one."""
 import pathlib
 import re
 import sys
@@ -29,7 +29,7 @@ def blocks(text):
 
 
 def stands_in(block, source):
-    """Whether these lines stand one behind the other, whatever their common indentation."""
+    """Whether a text has these lines one after the other, whatever their common indentation."""
     wanted, lines = block.split("\n"), source.split("\n")
     return any(plain("\n".join(lines[at : at + len(wanted)])) == block for at in range(len(lines) - len(wanted) + 1))
 
@@ -69,10 +69,10 @@ def main():
     page = PAGE.read_text()
     sources = [it.read_text() for it in sorted(PROGRAM.glob("*.rt"))]
     found = blocks(page)
-    faults = [f"docs/EMBEDDING.md shows code from {block.splitlines()[0]!r} on that stands so in no source of crates/recovery_embedding: show it as it is now"
+    faults = [f"docs/EMBEDDING.md shows code from {block.splitlines()[0]!r} on that is in no source of crates/recovery_embedding: show the code as it is now"
               for block in found if not any(stands_in(block, it) for it in sources)]
     callers = sources + [it.read_text() for it in sorted(SENDER.rglob("*.rt"))]
-    faults += [f"crates/recovery_embedding/src hands in no Event::{it}, nor does the sender: it is the example that hands in every event"
+    faults += [f"crates/recovery_embedding/src passes no Event::{it}, nor does the sender: the example and its sender must pass every event"
                for it in events() if not is_handed_in(it, callers)]
     faults += [f"docs/EMBEDDING.md does not name `{it}`: it has a row in All events" for it in events() if f"`{it}`" not in page]
     faults += [] if found else ["the page has no block of code"]

@@ -1,9 +1,10 @@
 #!/usr/bin/env python3
-"""Counts in how many files of the library each event is named: in its code and definitions, in the promises that speak of it, and in its
-proofs. Tests, rows and the example are apart, and so is the file that declares it. What does not speak of an event should not name it:
-the means have a bound with room for a tenth more, and no event may be named in far more files than the others. And each event, each
-refusal and each timer stands in every list of them that is written by hand, by the name and the number that the library has; what is
-missing from one, and what is to be written there, is told list by list."""
+"""Counts the files of the library that name each event: code and definitions, promises about it, and proofs. Tests, rows, the example and
+the file that declares it do not count. A file should name an event only if it is about that event. So the means have a bound, with room
+for a tenth more, and no event may be named in far more files than the others.
+
+Each event, error and timer must also be in every list of them that is written by hand, with the name and number that the library has. What
+is printed names the list, what is missing there, and for an event what to write."""
 import pathlib
 import re
 import sys
@@ -24,8 +25,8 @@ DO = ("what is the same for many events is a last line of a table (specs/Table.a
       "a promise names the events that it speaks of, and has a last line for the others",
       "a law by events has a last line by search, or goes by kinds of entries (EntryKinds)")
 
-# the lists of events that are not read off event.rt, how an event stands in one (by its variant, its line (set-timer) or its export (set_timer)),
-# and what is to be written there
+# The lists of events that are not read off event.rt. For each, the form of an event there, by its variant, its line (set-timer) or its export
+# (set_timer), and what to write there.
 WRITTEN = "it by tests/rust.py --write, once the library has its export"
 LISTS = [
     ("crates/recovery_script_syntax/specs/Lines.antt", r'codes "{line}"', "the form of its line, its place in forms_without_items, and its line of saying"),
@@ -34,7 +35,7 @@ LISTS = [
     ("crates/recovery_trace/src/faults.rt", r'"{line}{example}"', "an example of its line, a word for each field of its form (Lines.antt)"),
     ("crates/recovery_ffi/src/*.rt", r"fn recovery_ffi_{export}\(", "its export, with the clause `Answers`"),
     ("crates/recovery_embedding/src/*.rt crates/recovery_sender/src/sender/*.rt", r"\bEvent::{name}\b|\.recovery\(\)\.{export}\(",
-     "a place of the program that hands it in, which hands in all that its sender does not"),
+     "a place of the program that passes it: the program passes all events that its sender does not"),
     ("rust/c/recovery_ffi.h", r"\brecovery_ffi_{export}\(", WRITTEN),
     ("rust/quic-recovery/src/event.rs", r"^    {name}\b", WRITTEN),
     ("rust/quic-recovery/src/recovery.rs", r"\bEvent::{name}\b", "its arm, a call of the export"),
@@ -44,14 +45,14 @@ LISTS = [
     ("tests/alike.py", r'(return|lambda it:) f?"{line}[ "]', "its random line, an item of EVENTS"),
     ("bench/run.py", r'yield f?"{line}[ "]', "its line among those of all_events"),
     ("docs/PROGRAMS.md", r"^\| `{line}{row}( ITEM\.\.)?` ", "the row of its line, a word for each field of its form (Lines.antt), and all that it is answered"),
-    ("docs/EMBEDDING.md", r"^\|[^|]*\|[^|]*`{name}`[^|]*\|[^|]*\|$", "its row: when it is handed in, and what the answer asks for"),
+    ("docs/EMBEDDING.md", r"^\|[^|]*\|[^|]*`{name}`[^|]*\|[^|]*\|$", "its row: when to pass it, and what its answer asks for"),
 ]
 FORM = re.compile(r'form_of \(codes "([a-z-]+)"\) (?:\(([^)]*)\)|\[\])|name = codes "([a-z-]+)";\s+fields = ([^;]*);')
 # the word of a field by its kind: in an example, and in a row of docs/PROGRAMS.md
 WORDS = {"a_space": ("data", "SPACE"), "a_path": ("current", r"current\\\|previous"), "a_timer": ("idle", "TIMER"), "a_flag": ("[01]", r"0\\\|1"),
          "a_largest": ("-", "LARGEST")}
 NUMBER = ("0", "[A-Z0-9]+")
-# the same of refusals and of timers: what reads their table has no list of its own
+# the lists of errors and of timers: code that reads their table has no list of its own
 REFUSALS = {
     "docs/PROGRAMS.md": r"refused {number} {name}\b",
     "docs/EMBEDDING.md": r"`{name}`",
@@ -60,7 +61,7 @@ TIMERS = {
     "docs/PROGRAMS.md": r"`{name}`",
     "tests/careful/lines.rs": r'b"{name}" => Some\({place}\)',
 }
-REFUSED = ["README.md", "docs/*.md", "tests/careful/*.rs", "tests/*.py"]  # where refusals are named with their numbers
+REFUSED = ["README.md", "docs/*.md", "tests/careful/*.rs", "tests/*.py"]  # the files that name errors with their numbers
 LINES = {"AckFrequencyIn": "ack-frequency", "DiscardSpace": "discard"}  # whose lines are not their names
 
 
@@ -83,13 +84,13 @@ def missing(events):
 
 
 def names_missing():
-    """The lists that a refusal or a timer is missing from, and refusals that are named with another's number."""
+    """The lists that an error or a timer is missing from, and errors that are named with another's number."""
     refusals = [{"number": number, "name": name} for number, (name, _) in enumerate(tree.refusals(), 1)]
     timers = [{"place": place, "name": name} for place, name in enumerate(tree.timers())]
     for lists, found in (REFUSALS, refusals), (TIMERS, timers):
         for place, form in lists.items():
             text = (ROOT / place).read_text()
-            yield from (f"{it['name']} is not in {place}, where each has its place" for it in found if not re.search(form.format(**it), text))
+            yield from (f"{it['name']} is not in {place}: add it to the list there" for it in found if not re.search(form.format(**it), text))
     right = {(str(it["number"]), it["name"]) for it in refusals} | {("21", "Unsent")}  # the last is the sender's own
     for path in sorted(it for place in REFUSED for it in ROOT.glob(place)):
         wrong = set(re.findall(r"\brefused (\d+) ([A-Z]\w+)", path.read_text())) - right
@@ -97,7 +98,7 @@ def names_missing():
 
 
 def room_of(path):
-    """Where a file counts: with code and definitions, promises or proofs."""
+    """What a file counts as: code and definitions, promises or proofs."""
     inner = path.relative_to(ROOT / "crates").parts[1:]
     if inner[0] == "proofs":
         return 2
@@ -112,7 +113,7 @@ def files():
 
 
 def declared(text):
-    """The names of the variants, where this declares the events."""
+    """The names of the variants, if this text declares the events."""
     body = re.search(r"^pub enum Event<.*?^}", text, re.M | re.S)
     return re.findall(r"^    ([A-Z]\w*)", body.group(0), re.M) if body else []
 

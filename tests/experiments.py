@@ -1,6 +1,6 @@
 #!/usr/bin/env python3
-"""Runs each command of docs/EXPERIMENTS.md, in its order: each ends with status 0, writes the lines of figures that stand behind it, and draws the
-picture that the documents have, where they have it. What draws with matplotlib is left out where that is missing. Says how long the slowest took.
+"""Runs each command of docs/EXPERIMENTS.md, in its order. Each must end with status 0, print the figures that follow it on the page, and draw the
+picture that the documents have of it, if any. Commands that draw with matplotlib are left out if it is missing. Prints the time of the slowest.
 
 An argument is a folder of other programs to try in place of the launchers."""
 import os
@@ -23,7 +23,7 @@ expect = tests.expect
 
 
 def commands():
-    """The commands, each with the lines that stand behind it."""
+    """The commands, each with the lines that follow it."""
     found = []
     for line in re.findall(r"^    (.*)$", PAGE, re.M):
         if line.startswith(("./", "examples/", "tools/")):

@@ -1,8 +1,7 @@
 #!/usr/bin/env python3
-"""./prove, ./check and the launchers as a user meets them, with a stand-in for the toolchain, in copies of the tree in which nothing
-was built: two at once, an interrupt, no toolchain, a tree that cannot be written, another logic, a program that is missing, there, or
-older than its sources, one that is prebuilt, answers that are too long, a pipe that nobody reads, and how long ./prove says that it
-takes."""
+"""Tests ./prove, ./check and the launchers as a user meets them, with a stand-in for the toolchain, in copies of the tree without any
+build: two at once, an interrupt, no toolchain, a read-only tree, another logic; a program that is missing, built, older than its
+sources, or prebuilt; answers that are too long, a pipe that nobody reads, and the time that ./prove expects."""
 import hashlib
 import importlib.machinery
 import importlib.util
@@ -25,7 +24,7 @@ TOOLS = "awk bash cat dirname env find grep head mkdir mktemp readlink rm sh sha
 MISSING = f"the Rattle toolchain is missing: its command rt ({tree.logic()}) is not on the PATH\n"
 SECONDS = 300  # by which all that is waited for has happened
 
-# what stands for the toolchain: it proves in a moment, says that sources ran, and has a gate that passes two and then stays
+# a stand-in for the toolchain: its proofs take no time, it prints the arguments with which sources ran, and its gate hangs in the middle
 STAND_IN = """#!/bin/sh
 case $1 in
 version) echo "a kit $SAID_LOGIC" ;;
@@ -58,7 +57,7 @@ esac
 """
 
 
-# a word that each of them knows, and whether they give help behind it, as the programs do
+# a word that each of them knows, and whether they give help after it, as the programs do
 WITH_HELP = {"recovery-replay": ("7", False), "recovery-trace": ("7", True), "recovery-sender": ("established", False),
              "recovery-pictures": ("tunnel", True), "recovery-link": ("loss=1%", False)}
 
@@ -137,7 +136,7 @@ def module_of(name):
 
 
 def estimates():
-    """Three crates of 100 seconds that stand on each other, and beside the last a fourth; or the first of them kept."""
+    """Three crates of 100 seconds, each a dependency of the next, and a fourth that depends on the first alone. Some are kept."""
     prove = module_of("prove")
     needs = {"low": [], "middle": ["low"], "high": ["middle"], "beside": ["low"]}
     prove.seconds_of, prove.is_kept = lambda name: 100, lambda name: name in kept
@@ -211,7 +210,7 @@ def without_toolchain(place):
 
 
 def not_writable(place):
-    """A file stands where the folder of what is built would be: so it goes in a tree that can only be read, whoever asks."""
+    """A file is in the place of the folder for builds, so nothing can be written there, as in a read-only tree, even by root."""
     (place.root / "out").write_text("")
     status, output, said = place.ran("./prove")
     tests.expect("./prove where nothing can be written", (status, output, said.count("\n")), (1, "", 1))

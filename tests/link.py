@@ -1,6 +1,7 @@
 #!/usr/bin/env python3
-"""recovery-link as a process: its figures beside the formulas that are known of both controllers; what both ends acknowledge; that a run, its
-script through recovery-sender, its qlog and its events through recovery-trace say the same; and what arguments that it cannot read are told.
+"""Tests recovery-link as a process. Its figures are compared with the known formulas of both controllers, and both endpoints acknowledge what
+arrives. A run, its script through recovery-sender, its qlog, and its events through recovery-trace agree. Arguments that it cannot read get an
+error that names them.
 
 Arguments are other programs to try in place of the proved ones: the link, the sender and the trace."""
 import json
@@ -14,7 +15,7 @@ import tree
 from tree import ROOT
 
 PROGRAMS = [ROOT / "crates" / it / "out" / it for it in ("recovery_link", "recovery_sender_program", "recovery_trace")]
-BAD = {  # arguments that cannot be read, by what is said of each: beyond a limit, of no form, of no name
+BAD = {  # arguments that cannot be read, by their error: beyond a limit, of another form, with an unknown name
     "1 to 1000G bits a second, as in rate=10M": ["rate=0", "rate=1001G", "rate=10m", "rate=", "rate=99999999999999999999G", "rate=0.5", "rate=1.0005k"],
     "0 to 1000s in ns, us, ms or s, as in delay=12.5ms": ["delay=1001s", "delay=-1", "late=x", "ack-delay=5min", "delay=.5s", "delay=1.s", "every=0x1"],
     "1200 to 1000G bytes, as in queue=62.5k": ["queue=1199"],
@@ -118,22 +119,22 @@ def alike(words):
 
 
 def mathis(loss, rtt):
-    """NewReno's rate, in bits a second, where packets are lost with this chance over a round trip of so many seconds (Mathis and others, 1997)."""
+    """NewReno's rate in bits a second, at this loss rate and this round-trip time in seconds (Mathis and others, 1997)."""
     return PACKET * math.sqrt(3 / 2) / (rtt * math.sqrt(loss))
 
 
 def cubic(loss, rtt):
-    """CUBIC's: the greater of its own (RFC 9438, 5.1) and that of its Reno-friendly region, where it is Reno's (4.3)."""
+    """CUBIC's rate: the larger of its own (RFC 9438, 5.1) and that of its Reno-friendly region, which is Reno's (4.3)."""
     constant, beta = 0.4, 0.7
     own = (constant * (3 + beta) / (4 * (1 - beta))) ** 0.25 * rtt ** 0.75 / loss ** 0.75
     return max(own * PACKET / rtt, mathis(loss, rtt))
 
 
 def near(what, found, wanted, factor):
-    tests.holds(what, wanted / factor <= found <= wanted * factor, f"{found} beside {wanted:.0f}")
+    tests.holds(what, wanted / factor <= found <= wanted * factor, f"{found} and not about {wanted:.0f}")
 
 
-LOSSY = {1: 5000, 5: 2000}  # packets, where so many in a hundred are lost
+LOSSY = {1: 5000, 5: 2000}  # the number of packets for each percentage of losses
 
 
 def lossy(name, rtt, loss):
@@ -143,8 +144,8 @@ def lossy(name, rtt, loss):
 
 
 def formulas():
-    """With random losses within a factor of 1.5 of the formula; with none and a queue of a tenth or of twice what the link holds at least 2/3 of its
-    rate, or 9/10 of it."""
+    """With random losses, the rate is within a factor of 1.5 of the formula. Without losses it is at least 2/3 of the link's rate if the queue holds
+    a tenth of what the link holds, and at least 9/10 if it holds twice what the link holds."""
     for name, formula in ("newreno", mathis), ("cubic", cubic):
         for rtt in 20, 200:
             link = f"controller={name}", f"delay={rtt // 2}ms", "ack-delay=0"
@@ -222,8 +223,8 @@ def both_ways():
 
 
 def both_ends():
-    """Both ends acknowledge: a packet carries the largest number of an ACK, and where nothing is lost, the ACK of that packet has the numbers that the
-    former ACK had not (RFC 9000, 13.2.4). A copy of an ACK is not read, and that of the last one comes after the end."""
+    """Both endpoints acknowledge: a packet carries the largest number of an ACK. If nothing is lost, the ACK of that packet has the numbers that the
+    earlier ACK did not have (RFC 9000, 13.2.4). A copy of an ACK is not read, and the copy of the last ACK arrives after the end."""
     calls = [it.split() for it in ran(PROGRAMS[0], ["--script", "bytes=120k", "ack-duplicate=100%"])[1].splitlines()]
     carried = [it[5] for it in calls if it[0] == "send"]
     heard = [(int(one[3]), other) for one, other in zip(calls, calls[1:]) if one[0] == "received"]
@@ -235,7 +236,7 @@ def both_ends():
 
 
 def managed():
-    """Controlled delay keeps the queue short, by drops or by marks, and two equal flows share the link."""
+    """With controlled delay the queue stays short, by drops or by marks. Without it, two equal flows share the link."""
     link = "bytes=12M", "queue=1M", "rate=10M"
     tail, codel, marks = (figures(*link, *it) for it in ([], ["aqm=codel"], ["aqm=codel", "ecn=yes"]))
     holds("a long queue", tail["wait"] > 200_000_000, tail)

@@ -1,10 +1,10 @@
 #!/usr/bin/env python3
-"""The prebuilt library and programs, as one uses them who has no toolchain: in a copy of the tree in which nothing was built, and with
-a PATH that has no rt. The first answer; the example, the tests, a crate of one's own and the package in Rust; C and C++ by pkg-config
-and CMake, linked statically and dynamically; and a changed byte, a changed source and a library of another version, which are refused.
+"""Tests the prebuilt library and programs as a user without the toolchain has them: in a copy of the tree without any build, and with a
+PATH that has no rt. It gets the first answer. In Rust it tries the example, the tests, a new crate and the package; in C and C++, pkg-config
+and CMake, linked statically and dynamically. A changed byte, a changed source and a library of another version must be rejected.
 
-What needs cargo, pkg-config, cmake or a compiler that is not here is left out, and standard error says so. The bits themselves are
-compared with what the sources build to by ./dist --compare."""
+Tests that need cargo, pkg-config, cmake or a compiler are left out if it is missing, and standard error says so. ./dist --compare
+compares the bits with those that the sources give."""
 import contextlib
 import os
 import pathlib

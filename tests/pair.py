@@ -1,9 +1,9 @@
 #!/usr/bin/env python3
-"""Two endpoints over a hostile network: recovery-link plays random schedules, which drop, duplicate, reorder and delay, and all short ones. Each answer
-is compared with what the steps and answers before it allow (crates/recovery_pair/specs/Promises, and some that are not proved): honest endpoints
-reject no ACK of each other, what is acknowledged was delivered once with the items that were sent, no item is lost, none is sent more often than its
-losses and probes account for, the amplification limit and the window hold, and no endpoint is stuck. Then the network delivers, and all items
-arrive.
+"""Tests two endpoints over a hostile network. recovery-link plays random schedules, which drop, duplicate, reorder and delay packets, and all short
+ones. Each answer is compared with what the steps and answers before it allow: crates/recovery_pair/specs/Promises has these rules, and this file has
+some that are not proved. Honest endpoints reject no ACK of each other. What is acknowledged was delivered once, with the items that were sent. No
+item is lost, and none is sent more often than its losses and probes account for. The amplification limit and the window hold, and no endpoint is
+stuck. At the end the network delivers, and all items arrive.
 
     tests/pair.py                  with seeds 0 to 59
     tests/pair.py 1000 1099        with others
@@ -75,7 +75,7 @@ class World:
         asked, self.asked = self.asked, None
         taken = {"hand": self.hand, "send": self.send, "arrive": self.arrive, "expire": self.expire, "discard": self.discard}
         if said[0] in ("refused", "failed"):
-            holds("a step is refused only for a discarded space", said[2:] == ["SpaceDiscarded"] and tuple(words[1:3]) in self.discarded)
+            holds("a step fails only for a discarded space", said[2:] == ["SpaceDiscarded"] and tuple(words[1:3]) in self.discarded)
             return
         if words[0] == "send" and asked == (words[1], words[2]):
             holds("a send right after a probe timeout is a probe, or is blocked", said == ["blocked"] or said[0] == "sent" and is_probe(said))
@@ -275,7 +275,7 @@ def delivered(run):
 
 
 def deliver(run):
-    """The network delivers: all that was handed in arrives."""
+    """The network delivers: all items arrive."""
     for _ in range(ROUNDS):
         if delivered(run):
             break
@@ -339,7 +339,7 @@ def short(program, moves):
         return f"{why}\n" + "\n".join(lines)
 
 
-BAD = {  # a schedule, and what is told of its line that cannot be read
+BAD = {  # a schedule, and the error about its line that cannot be read
     "hand client data\nsend client data 1200": "line 2: words are missing behind the last one",
     "# a comment\n\nlose 3": 'line 3: cannot read word 1, "lose"',
     "arrive 0": "line 1: words are missing behind the last one",

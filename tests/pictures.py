@@ -1,6 +1,6 @@
 #!/usr/bin/env python3
-"""Compares the pictures of the documents with what the program that was proved prints, reads each as XML, and sees that a picture shows the script
-that was asked for, and what arguments and inputs that it cannot read are told.
+"""Compares the pictures of the documents with the output of the proved program. Each must be XML and show the script that was asked for. Arguments
+and inputs that cannot be read must get their error.
 
 An argument is another program to try in place of the proved one."""
 import pathlib
@@ -20,7 +20,7 @@ PICTURES = [  # the picture, the arguments, and the input
     ("tunnel.svg", ["tunnel"], MEASURED),
 ]
 USAGE = "usage: recovery-pictures connection [from=TIME] [to=TIME] [over=WINDOW] [SEED [WINDOW]] | tunnel\n"
-REFUSED = [  # the arguments, the input, and what is told
+REFUSED = [  # the arguments, the input, and the error
     ([], "", USAGE),
     (["nothing"], "", USAGE),
     (["connection", "-", "0"], SCRIPT, USAGE),
@@ -38,7 +38,7 @@ REFUSED = [  # the arguments, the input, and what is told
     (["tunnel"], "1400 yes\n1400\n", "line 2: not 'SIZE yes' or 'SIZE no'\n"),
 ]
 
-# the word of a line that is the moment of its event, and the start of the clock in the second script
+# the place of the time in a line, and the start of the clock in the second script
 MOMENTS = {"received": 2, "send": 2, "acked": 2, "transmit": 1, "pacer-check": 1, "congestion": 1, "end-acks": 1, "poll-mtu": 1, "losses-done": 1}
 UNIX_TIME = 1_764_176_000_000_000_000
 
@@ -78,7 +78,7 @@ def later(line):
 
 
 def moments():
-    """Each sample with the moment that the last event before it told."""
+    """Each sample with the time of the last event before it that has one."""
     now = 0
     for line in SCRIPT.splitlines():
         words = line.split()
@@ -93,7 +93,7 @@ def first_moment():
 
 
 def scripts():
-    """A picture begins with the first moment of its script, wherever the clock begins, and shows what lies between two."""
+    """A picture begins with the first time in its script, whatever the clock's start, and shows what is between two times."""
     whole = (ROOT / "docs" / "pictures" / "connection.svg").read_text()
     shifted = drawn(["connection"], "".join(f"{later(line)}\n" for line in SCRIPT.splitlines()))
     first = first_moment()
@@ -124,7 +124,7 @@ def seeds():
 
 
 def lines(picture, style):
-    """The lines in this style, but for their marks in the legend."""
+    """The lines in this style, without their marks in the legend."""
     return re.findall(rf'<path fill="none" [^>]*{style} d="(M[^"]*V[^"]*)"', picture)
 
 

@@ -1,6 +1,6 @@
 #!/usr/bin/env python3
-"""What no test of a crate can reach: the proved program on rows of lines, with arguments and with streams of the system that
-fail, recovery-replay where that program is missing, and what the programs of the launchers say of themselves."""
+"""Tests what no test of a crate can reach. The proved program runs on rows of lines, with arguments, and with streams that fail.
+recovery-replay runs without that program. The launchers' programs print their help and version."""
 import os
 import pathlib
 import re
@@ -44,7 +44,7 @@ def lines_of(row):
 
 
 def scripts(path):
-    """The scripts of a file: where each begins, the program's arguments, the lines and the answers."""
+    """The scripts of a file: the first line of each, the program's arguments, the lines and the answers."""
     here = None
     for place, row in enumerate(path.read_text().split("\n"), 1):
         if row.endswith(" => cannot be read"):
@@ -63,7 +63,7 @@ def scripts(path):
 
 
 def rows():
-    """Runs each script of tests/rows, without arguments and where they choose no seed, or with those that it names. An empty
+    """Runs each script of tests/rows with its arguments, or, if it names none, without any and with '-' (no seed). An empty
     line ends a script, and a line that cannot be read is one of its own; `3 times: LINE => ANSWER` is three lines, and
     `0 to 6: LINE => ANSWER` seven, in whose answers {} is the number."""
     for path in sorted(ROWS.glob("*.txt")):

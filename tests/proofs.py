@@ -1,7 +1,7 @@
 #!/usr/bin/env python3
-"""Reads the proofs as a reader would: no line of an .antt file but an import is longer than 120 columns, in any crate. Of the library and its
-program besides: each file of lemmas begins with what it shows, no term counts fields (as `told.1.1.1.1`), and proofs are so many times code and
-definitions by characters, without imports, blanks, comments, tests and worked rows."""
+"""Checks that proofs can be read. In every crate, no line of an .antt file except an import is longer than 120 columns. In the library and its
+program, each file of lemmas also begins with what it shows, and no term counts fields (as `told.1.1.1.1`). The length of the proofs, in characters
+and relative to code and definitions, has a bound. Imports, blanks, comments, tests and worked rows do not count."""
 import pathlib
 import re
 import sys

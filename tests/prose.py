@@ -1,5 +1,5 @@
-"""How a page reads: the words of its sentences, and words of our own that stand in place of the field's. Code, headings and names in backquotes
-do not count; each cell of a table of more than three words does."""
+"""Measures how a page reads: the length of its sentences, and home-made words in place of the field's terms. Code, headings and names in backquotes
+do not count. A cell of a table with more than three words does."""
 import re
 
 MOST, MEAN = 32, 18  # words of a sentence, and on the mean of a page

@@ -1,7 +1,7 @@
 #!/usr/bin/env python3
-"""qlog, out and in: what recovery-link writes is JSON text sequences (RFC 7464) whose events have the form of draft-ietf-quic-qlog-quic-events,
-which stands below, and so is what recovery-trace writes of a trace; tools/qlog2script reads it back to the script that the same run writes, reads
-recordings by the draft's names and by those of version 0.3, as files of tests/qlog have them, and tells of what it cannot read.
+"""Tests writing and reading qlog. recovery-link and recovery-trace write JSON text sequences (RFC 7464). Their events have the form of
+draft-ietf-quic-qlog-quic-events, whose schema is below. From them tools/qlog2script makes the script that the same run writes. It also reads
+recordings with the names of the draft or of version 0.3 (tests/qlog), and reports what it cannot read.
 
 Arguments are other programs to try in place of the proved ones: the link and the trace."""
 import json
@@ -23,7 +23,7 @@ RUNS = [  # several losses at once, a link that is late, a queue that overflows 
     ["bytes=600k", "aqm=codel", "ecn=yes", "queue=1M", "ack-loss=5%"],
 ]
 
-# the schema of the events that are written: of each its data, with '?' behind what may be missing; a list is of any length
+# the schema of the events that are written: the data of each, with '?' after what may be missing; a list has any length
 COUNT, MILLIS, FLAG = "count", "millis", "flag"
 HEADER = {"packet_type": {"initial", "handshake", "1RTT"}, "packet_number?": COUNT}
 ACK = {"frame_type": {"ack"}, "ack_delay?": MILLIS, "acked_ranges?": [[COUNT]], "ect0?": COUNT, "ect1?": COUNT, "ce?": COUNT}
@@ -49,7 +49,7 @@ SCHEMA = {
 TRACE = {"vantage_point": {"type": {"client", "unknown"}}, "common_fields": {"time_format": {"relative"}, "reference_time": COUNT}}
 FIRST = {"qlog_version": {"0.3"}, "qlog_format": {"JSON-SEQ"}, "title": {"recovery-link", "recovery-trace"}, "trace": TRACE}
 
-BAD = [  # a recording, the lines of its script, and what is told
+BAD = [  # a recording, the lines of its script, and the error
     ("", "", "the recording is no JSON, or is cut off"),
     ("nothing", "", "the recording is no JSON, or is cut off"),
     ("{}", "", "the recording has no trace"),
@@ -63,7 +63,7 @@ BAD = [  # a recording, the lines of its script, and what is told
 ]
 
 OWN = {"mtu", "pacer_tokens"}  # of the state, and no metrics of qlog
-TOLD = [  # a line, and the records of it beside that of the metrics
+TOLD = [  # a line, and its records in addition to that of the metrics
     ("send initial 1 1200 1 -", [("transport:packet_sent", {
         "header": {"packet_type": "initial", "packet_number": 0}, "raw": {"length": 1200}, "frames": [{"frame_type": "ping"}]})]),
     ("poll-mtu 1", [("transport:packet_sent", {

@@ -1,19 +1,20 @@
 #!/usr/bin/env python3
-"""quic-go 0.29.0, as Debian 12 packages it, over the proved recovery, through its C header and cgo: quic-go's own tests
-as it is and over the library; transfers over a proxy that loses, delays and reorders, over the library; and the same in
-shadow, where quic-go's own parts, made to go by RFC 9002, get the same inputs, and all that can be read of both is
-compared. A line of counts each; docs/QUIC-GO.md says what was changed, and why.
+"""Tests quic-go 0.29.0, as Debian 12 packages it, with the proved recovery in place of its own, through the C header and
+cgo. It runs quic-go's own tests with the library and without it, and transfers over a proxy that loses, delays and
+reorders. In shadow runs, quic-go's own parts, changed to follow RFC 9002, get the same inputs as the library, and all
+values that can be read of both are compared. Each part prints its counts. docs/QUIC-GO.md describes the changes and the
+reasons.
 
     tests/quicgo.py             all of it, in out/quicgo: 11 minutes, most of it waiting. Needs the library (prebuilt,
                                 or tests/rust.py --library; QUIC_RECOVERY_LIB names a folder with another), a C compiler
-                                and the packages; where these are missing, it says so and fails
+                                and the packages; if these are missing, it says so and fails
     tests/quicgo.py PART..      some of unit (quic-go's unit tests), suite (its integration tests), shadow, transfer; or
                                 cost: what a packet takes both ways; or sites: in shadow, each of the places left out in
                                 turn, and quic-go as it is
     tests/quicgo.py --turns N   runs suite N times, and shadow N times as long with other random numbers
-    tests/quicgo.py --write     writes edits and Go files, by what stands in out/quicgo/proved
+    tests/quicgo.py --write     writes edits and Go files, by what is in out/quicgo/proved
 
-No line of theirs stands here: an edit names lines by their numbers, in the form of `diff -e`, and holds ours.
+The repository has no line of theirs: an edit names their lines by number, in the form of `diff -e`, and has only ours.
 """
 import argparse
 import collections
@@ -157,7 +158,7 @@ def lay_out(which, theirs):
 
 
 def written(theirs):
-    """Writes the edits and our files, by those that stand in the tree."""
+    """Writes the edits and our files, by those that are in the tree."""
     root = ROOM / PROVED / PLACE
     for file in sorted(theirs.rglob("*.go")):
         name = file.relative_to(theirs)

@@ -1,16 +1,16 @@
 #!/usr/bin/env python3
-"""quinn-proto 0.9.2 and quinn 0.9.3, as Debian 12 packages them, over the proved recovery in place of their own parts:
-their own tests with the library and without it; ours over a simulated link; the same in shadow, where their own parts
-are told the same beside it, and all that can be read of both is compared; and 100 MB over UDP on the loopback
-interface. A line of counts each; docs/QUINN.md says what was changed, and why.
+"""Tests quinn-proto 0.9.2 and quinn 0.9.3, as Debian 12 packages them, with the proved recovery in place of their own
+parts. It runs their own tests with the library and without it, our tests over a simulated link, and a transfer of 100 MB
+over UDP on the loopback interface. In shadow runs, their own parts get the same inputs as the library, and all values that
+can be read of both are compared. Each part prints its counts. docs/QUINN.md describes the changes and the reasons.
 
     tests/quinn.py            all of it, in out/quinn: ten minutes. Needs the library (tests/rust.py --library), cargo,
-                              and the sources of four packages; where these are missing, it says so and ends
+                              and the sources of four packages; if these are missing, it says so and ends
     tests/quinn.py PART..     some of tests, shadow, transfer; or instructions: what a packet takes with the library and
                               without it, by valgrind
-    tests/quinn.py --write    writes edits and glue, by what stands in out/quinn/proved
+    tests/quinn.py --write    writes edits and glue, by what is in out/quinn/proved
 
-No line of theirs stands here: an edit names lines by their numbers, in the form of `diff -e`, and holds ours.
+The repository has no line of theirs: an edit names their lines by number, in the form of `diff -e`, and has only ours.
 """
 import argparse
 import collections
@@ -70,11 +70,11 @@ def tell(text):
     print(text, flush=True)
 
 
-# ---- where their sources are, and the folders that are made of them
+# ---- the place of their sources, and the folders that are made of them
 
 
 def registry():
-    """The folder of the packages' sources; none where a package is not installed, or is another version."""
+    """The folder of the packages' sources; none if a package is not installed, or is another version."""
     manifests = [pathlib.Path(it) for it in files_of("librust-quinn-proto-dev") if it.endswith("/Cargo.toml")]
     folders = [it.parents[1] for it in manifests]
     is_whole = folders and all((folders[0] / it).is_dir() for it in CRATES) and all(map(files_of, PACKAGES))
@@ -128,7 +128,7 @@ def manifest(which, text):
 
 
 def written(sources):
-    """Writes the edits, by the files that stand in the folder."""
+    """Writes the edits, by the files that are in the folder."""
     for file in sorted((sources / CRATES[0] / "src").rglob("*.rs")):
         place = file.relative_to(sources / CRATES[0] / "src")
         commands = edit(file.read_text(), (ROOM / PROVED / "quinn-proto" / "src" / place).read_text())
@@ -188,7 +188,7 @@ def compared(file):
 
 
 def shadow(what, *words):
-    """What a run in shadow compared, where it ended well."""
+    """What a shadow run compared, if it ended well."""
     file = ROOM / "compared.tsv"
     file.unlink(missing_ok=True)
     status, said = cargo(PROVED, *words, QUINN_SHADOW=str(file), QUINN_LOAD=str(LOAD))
@@ -202,7 +202,7 @@ def shadow(what, *words):
 
 
 def run_shadow():
-    """The same with their own parts beside the library."""
+    """Their tests and a transfer in shadow: with their own parts in addition to the library."""
     how = ["--release", "--features", "quinn-proto/shadow"]
     shadow("the tests", "test", "-p", "quinn-proto", "--lib", *how)
     shadow("a transfer", "run", "-p", "transfer", *how, "--", str(MEGABYTES), "reno")
@@ -223,7 +223,7 @@ def run_transfer():
 
 
 def instructions(which, load):
-    """Instructions and packets of transfers so many times as long, both ends and all that they do."""
+    """Instructions and packets of transfers that are `load` times as long: of both endpoints and all that they do."""
     status, said = cargo(which, "test", "-p", "quinn-proto", "--release", "--lib", "--no-run")
     program = re.search(r"Executable unittests .*\((.*)\)", said)
     tests.holds("the tests are compiled", status == 0 and program, said[-4000:])
@@ -237,8 +237,8 @@ def instructions(which, load):
 
 
 def run_instructions():
-    """What a data packet takes with its ACK, both ends, of a plain link: by transfers of two lengths, so that all that
-    comes before is left out."""
+    """The instructions of a data packet with its ACK, at both endpoints of a plain link. Transfers of two lengths are
+    subtracted, so that the handshake does not count."""
     took = []
     for which, what in (AS_IT_IS, "as it is"), (PROVED, "over the library"):
         (short, few), (long, many) = instructions(which, 1), instructions(which, 4)

@@ -1,4 +1,4 @@
-/* Preloaded, it refuses a program one request for memory: the one whose number, from 1 on, stands in REFUSED_REQUEST. */
+/* Preloaded, it makes one allocation of a program fail: the one with the number in REFUSED_REQUEST, counted from 1. */
 #include <errno.h>
 #include <stddef.h>
 #include <stdlib.h>

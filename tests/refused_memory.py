@@ -1,7 +1,7 @@
 #!/usr/bin/env python3
-"""Has every request for memory refused in turn: those of the script of crates/quic_recovery_refused_memory, and those of the program
-on a script of its own. It runs the programs that were proved and built, with tests/refused_memory.c before the C library: that
-refuses the Nth request.
+"""Lets each memory allocation fail in turn: those of the script of crates/quic_recovery_refused_memory, and those of the program on a
+script of its own. It runs the programs that were proved and built, with tests/refused_memory.c loaded before the C library. That makes
+the Nth allocation fail.
 """
 import argparse
 import collections
@@ -20,7 +20,7 @@ REQUESTS = 200  # more than each of the scripts makes
 EVENTS = ["received", "send", "send with a queue", "send that forgets", "lost with a queue", "poll-mtu", "issue-ids",
           "queue-probe", "new-path that goes on"]
 
-# each line of the program's script, and whether its event is refused where memory is
+# each line of the program's script, and whether its event fails if an allocation fails
 SCRIPT = [("poll-mtu 0", True), ("send data 0 100 1 - 5 6 7 8", False), ("send data 0 100 1 - 9", False), ("received data 0 0 1", True),
           ("lost data 1", False), ("lost data 2", True), ("take-pending data", False), ("issue-ids 0 1 14", True),
           ("queue-probe data 0", False), ("new-path 0 1 0", False), ("new-path 0 2 1", False), ("send initial 0 100 1 - 5", True),
@@ -33,7 +33,7 @@ class Failed(Exception):
 
 
 def ran(crate, given, shim=None, number=0):
-    """Status, output and errors of the program that a crate was built as, with the request of that number refused, from 1 on."""
+    """Status, output and errors of the program that a crate was built as, with a failure of the allocation of that number, from 1 on."""
     program = ROOT / "crates" / crate / "out" / crate
     if not tree.is_newer(program, crate):
         raise tree.Unfit(f"{crate} must be built first: ./prove {crate}")
@@ -42,17 +42,17 @@ def ran(crate, given, shim=None, number=0):
 
 
 def in_turn(told):
-    """How often each was hit, by what each request came to that was refused, the first one first."""
+    """How often each operation failed, by the results of the failed allocations, in their order."""
     made = sum(it is not None for it in told)
     if told[-1] is not None:
-        raise Failed("a script asks for memory more often than is tried: raise REQUESTS")
+        raise Failed("a script makes more allocations than are tried: raise REQUESTS")
     if None in told[:made]:
-        raise Failed(f"request {told.index(None) + 1} was refused, and nothing tells of it")
+        raise Failed(f"allocation {told.index(None) + 1} failed, and no error reports it")
     return collections.Counter(told[:made])
 
 
 def library(shim):
-    """The script of the library: each request is refused once."""
+    """The script of the library: each allocation fails once."""
 
     def told(number):
         status, output, errors = ran("quic_recovery_refused_memory", "", shim, number)
@@ -68,7 +68,7 @@ def library(shim):
     if missing:
         raise Failed(f"no request was refused of: {missing}")
     if hit["run", "a run as a whole"] != hit["one by one", "a recovery"] + 1:
-        raise Failed("a run as a whole is refused by other requests than those of its state and the one of its list of answers")
+        raise Failed("a run as a whole fails at other allocations than those of its state and the one of its list of answers")
     return sum(hit.values())
 
 
@@ -77,11 +77,11 @@ def text_of(lines):
 
 
 def program(shim):
-    """The program: a refused event is answered so, and the others as if it were not there; else the run ends as a whole."""
+    """The program: an event that fails is answered with the error, and the others as if it were not there; else the run ends as a whole."""
     lines = [line for line, _ in SCRIPT]
     answers = ran("recovery_program", text_of(lines))[1].splitlines()
     if REFUSED in answers:
-        raise Failed("memory was refused that was at hand")
+        raise Failed("an allocation failed with enough memory")
     wanted = {(0, text_of(answers), ""): None, (1, "", "replay: out of memory\n"): "the run as a whole"}
     for at, (line, is_refused) in enumerate(SCRIPT):
         if is_refused:

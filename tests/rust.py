@@ -1,12 +1,12 @@
 #!/usr/bin/env python3
-"""Passes what stands on the static library recovery_ffi: the declarations in Rust and C beside its exports, the Rust crate's
-tests, its documentation, clippy and rustfmt, with little memory, without the library and with one of another layout, the cost of
-hostile ACK frames, and the programs in C and C++.
+"""Tests what uses the static library recovery_ffi. These are its declarations in Rust and C, the Rust crate, and the programs in C and
+C++. The Rust crate has to pass its tests, documentation, clippy and rustfmt. It is also tried with little memory, without the library,
+with a library of another layout, and with hostile ACK frames, whose cost has a bound.
 
-    tests/rust.py            passes all of it; where the library is not built, it is proved and built first, with all that it stands on
-    tests/rust.py --declared passes what needs no library: the declarations, the toolchain's logic, rustfmt, cargo check and cargo doc
-    tests/rust.py --library  proves the library and builds it, if it is older than its sources, and writes its verdict beside it
-    tests/rust.py --write    writes the declarations, by the library's sources: rust/c/recovery_ffi.h, ffi.rs, event.rs and
+    tests/rust.py            all of it; if the library is not built, it is proved and built first, with its dependencies
+    tests/rust.py --declared what needs no library: the declarations, the toolchain's logic, rustfmt, cargo check and cargo doc
+    tests/rust.py --library  proves and builds the library if it is older than its sources, and writes its verdict next to it
+    tests/rust.py --write    writes the declarations by the library's sources: rust/c/recovery_ffi.h, ffi.rs, event.rs and
                              timer.rs of rust/quic-recovery/src, the table of docs/C.md and the library's layout.rt
 """
 import argparse
@@ -25,7 +25,7 @@ import tree
 from tree import ROOT
 
 CRATE = ROOT / "crates" / "recovery_ffi"
-STACK = ROOT / "crates" / "recovery_stack"  # what stands behind the exports
+STACK = ROOT / "crates" / "recovery_stack"  # what the exports call
 KEPT = ROOT / "crates" / "recovery_engine"
 LIBRARY = CRATE / "out" / "librecovery_ffi.a"
 VERDICT = CRATE / "out" / "verdict"  # the toolchain's line, and the line that it ended the library's proof with
@@ -47,7 +47,7 @@ IN_RUST = {
     "&'static str": "EcnFault",
 }
 
-# what Rust says of an enum in place of the library, and of a variant beside it
+# Rust's documentation of an enum in place of the library's, and of a variant in addition to it
 BESIDE = {
     "Event": [
         "An event. A packet carries the numbers of items that are retransmitted if it is lost. The caller defines what the",
@@ -226,7 +226,7 @@ def constants():
 
 
 def structs():
-    """The structs that cross, each with its fields, and their documentation; a struct in a struct stands as its fields."""
+    """The structs that the exports take and return, each with its fields and documentation; a struct in a struct becomes its fields."""
     inner = {name: fields for _, name, fields in all_structs()}
     for docs, name, fields in all_structs():
         if not any(kind == name for others in inner.values() for _, _, kind in others):
@@ -317,7 +317,7 @@ def declared_in_rust():
 
 
 def sentence(docs):
-    """What a number says, as the text of an error: the first sentence of its documentation, up to what follows in brackets or behind a colon."""
+    """The meaning of a number, as an error text: the first sentence of its documentation, without what follows in brackets or after a colon."""
     said = re.split(r" \(|: |, in these words|\.$|\. ", " ".join(docs))[0]
     return said[0].lower() + said[1:]
 
@@ -452,18 +452,18 @@ def declared_in_c():
     yield "#endif"
 
 
-# ---- events, answers and refusals in Rust, and a table of them
+# ---- events, answers and errors in Rust, and a table of them
 
 
 def fields(body):
-    """The fields of a variant as Rust has them, with their documentation: what a queue is asked with, and what is kept beside it, is nothing there."""
+    """The fields of a variant as Rust has them, with their documentation. The arguments of a queue, and what is kept next to it, have no field there."""
     for docs, name, kind in re.findall(r"((?:^        ///[^\n]*\n)*)^        (\w+): ([^\n]*),$", body, re.M):
         if not kind.startswith("Q::"):
             yield documented(docs), name, IN_RUST.get(kind, kind)
 
 
 def enum_in_rust(name, derived, parameters=""):
-    """An enum as the library has it, with Rust's own types, and with what is said of it in Rust beside."""
+    """An enum as the library has it, with Rust's own types, and with the documentation that only Rust has."""
     docs, body = re.search(rf"((?:^///[^\n]*\n)+)^#[^\n]*\n^pub enum {name}(?:<.*?>)? \{{\n(.*?)^\}}", EVENT.read_text(), re.M | re.S).groups()
     yield from (f"/// {it}".rstrip() for it in BESIDE.get(name, documented(docs)) + EXAMPLES.get(name, []))
     yield f"#[derive({derived})]"
@@ -532,7 +532,7 @@ def faults_in_rust():
 
 
 def refusals_in_rust():
-    """The numbers and the texts of refusals."""
+    """The numbers and the texts of errors."""
     texts = dict(tree.refusals())
     numbered = [(name, "(_)" if "{0}" in said else "") for name, said in texts.items()]
     yield ""
@@ -629,7 +629,7 @@ def table():
         name = exported[event].replace("recovery_ffi_", "")
         line = name.replace("_", "-")
         if line not in told:
-            sys.exit(f"rust: docs/PROGRAMS.md has no row of the line {line}, which says what {event} is answered")
+            sys.exit(f"rust: docs/PROGRAMS.md has no row of the line {line}, with the answers to {event}")
         rows.setdefault(", ".join(f"`{it}`" for it in told[line]), []).append(f"`{event}` (`{name}`)")
     yield "| Answers | Events, each with its function: `recovery_ffi_` and this |"
     yield "|---|---|"
@@ -687,7 +687,7 @@ def is_built():
 
 
 def built():
-    """The library is there, with its verdict; it is proved and built if it is not, with all that it stands on if that is not there either."""
+    """Whether the library is there, with its verdict. If it is not, it is proved and built, with those of its dependencies that are missing."""
     if is_built():
         return True
     if not all(tree.is_newer(tree.rlib(it), it) for it in tree.below(CRATE.name)):
@@ -696,11 +696,11 @@ def built():
     return compiled()
 
 
-# ---- what stands on it
+# ---- what uses it
 
 
 def ran(name, words, scarce=None, fails=False, **how):
-    """What it printed, where it ended well; or, where it is to fail, where it did."""
+    """What a command printed, if it ended as it should: well, or, with `fails`, with an error."""
     limit = (lambda: resource.setrlimit(resource.RLIMIT_AS, (scarce, scarce))) if scarce else None
     status, printed, errors = tree.ran(words, stdin=subprocess.DEVNULL, text=True, preexec_fn=limit, **how)
     return (printed + errors if fails else printed) if expect(name, (status != 0) == fails, printed + errors) else None
@@ -722,14 +722,14 @@ def cargo(folder):
     said = ran("a sender over UDP", [examples / "sender"])
     expect("it says what it came to", bool(said) and "all 200 were acknowledged" in said, said or "")
     expect("it says by which logic the library was proved", bool(said) and f", proved with {LOGIC.read_text().strip()}\n" in said, said or "")
-    said = ran("a sender over UDP where three of ten datagrams are lost", [examples / "sender", "30"])
+    said = ran("a sender over UDP that loses three of ten datagrams", [examples / "sender", "30"])
     expect("all of its items are acknowledged", bool(said) and "all 200 were acknowledged" in said, said or "")
     said = ran("a transfer over UDP", [examples / "transfer", "2000000", "20"])
     expect("all bytes of it come", bool(said) and "2000000 bytes came, as they were sent" in said, said or "")
     said = ran("little memory in Rust", [examples / "memory"], scarce=SCARCE)
-    expect("memory is refused, and all goes on", bool(said) and "out of memory" in said and "goes on" in said, said or "")
+    expect("an allocation fails, and all goes on", bool(said) and "out of memory" in said and "goes on" in said, said or "")
     ran("a second of random events", [examples / "fuzz", "1"])
-    ran("200,000 random steps beside a careful peer", [examples / "beside", "7", "200000"])
+    ran("200,000 random steps, compared with a careful peer", [examples / "beside", "7", "200000"])
     said = ran("the tutorial", [examples / "tutorial"])
     expect("it prints what docs/TUTORIAL.md shows", said == (RUST / "examples" / "tutorial.out").read_text(), said or "")
 
@@ -741,7 +741,7 @@ def hostile(folder):
 
 
 def without_library():
-    """Where there is no library the crate is checked and documented, and says what a program needs to link."""
+    """Without the library, the crate is checked and documented, and its error names what a program needs to link."""
     with tempfile.TemporaryDirectory() as target, tempfile.TemporaryDirectory() as empty:
         how = cargo_with(empty, CARGO_TARGET_DIR=target)
         missing = f"no program links: QUIC_RECOVERY_LIB names {empty}, which has neither libquic_recovery.a nor both {LIBRARY.name} and liblibc_c.a"
@@ -767,7 +767,7 @@ def older(folder, made):
 
 
 def frames(folder):
-    """In no function a probe of its frame overwrites a register that is in use: clang takes %r11 for it, also behind tests that have set it."""
+    """In no function a probe of its frame overwrites a register that is in use: clang takes %r11 for it, also after instructions that set it."""
     listing = ran("objdump", ["objdump", "-d", "--no-show-raw-insn", "--no-addresses", folder / LIBRARY.name]) or ""
     functions = re.findall(r"^<(.+)>:\n((?:\t.*\n)+)", listing, re.M)
     probed = {name: body.split("mov    %rsp,%r11", 1)[0] for name, body in functions if "mov    %rsp,%r11" in body}
@@ -781,7 +781,7 @@ def layout():
 
 
 def ranges():
-    """The numbers of what events are answered, and of why they are refused, meet none that senders have: these begin at 128."""
+    """The numbers of events' answers and errors differ from those that only senders have, which begin at 128."""
     text = (KEPT / "src" / "numbers.rt").read_text()
     for group, of_events in ("ANSWER", len(variants(EVENTS, "Answer"))), ("REFUSAL", len(tree.refusals()) + 1):
         numbers = [int(it) for it in re.findall(rf"^pub const {group}_\w+: u8 = (\d+);", text, re.M)]
@@ -807,7 +807,7 @@ def in_c(folder, source, program):
 
 
 def programs_in_c(folder, made):
-    """The programs in C and C++: each prints what stands beside it."""
+    """The programs in C and C++: each prints what the file next to it has."""
     for source in "main.c", "misuse.c", "handshake.c", "sender.c", "transfer.c", "tunnel.c", "main.cpp":
         program = made / source.replace(".", "_")
         if ran(f"{source} is compiled", in_c(folder, source, program)) is not None:

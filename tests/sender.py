@@ -1,6 +1,6 @@
 #!/usr/bin/env python3
-"""recovery-sender as a process: it answers rows of calls, and recordings of real connections, as the files of tests/sender say, one
-line at a time; what it tells of lines and arguments that it cannot read, and of streams that fail.
+"""Tests recovery-sender as a process. It answers rows of calls and recordings of real connections with what the files of tests/sender
+have, one line at a time. It reports lines and arguments that it cannot read, and streams that fail.
 
 An argument is another program to try in place of the proved one."""
 import os
@@ -57,7 +57,7 @@ def every_row():
 
 
 def lines():
-    """What stands before a line that cannot be read is answered."""
+    """The lines before one that cannot be read are answered."""
     for place, row in enumerate((FILES / "lines.txt").read_text().splitlines(), 1):
         bad, gives, told = row.rpartition(" => ")
         if gives:

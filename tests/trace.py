@@ -1,6 +1,6 @@
 #!/usr/bin/env python3
-"""recovery-trace as a process: it answers each script that the repository has as the file beside it says, one line at a time, in
-memory that does not grow with the input; what it tells of lines and arguments that it cannot read; the example of its page.
+"""Tests recovery-trace as a process. It answers each script of the repository with the output in the file next to it, one line at a
+time, in memory that does not grow with the input. It reports lines and arguments that it cannot read. The example of its page is true.
 
 An argument is another program to try in place of the proved one."""
 import json
@@ -22,7 +22,7 @@ METRICS = {"time", "bytes_in_flight", "packets_in_flight", "congestion_window", 
 GOOD, ANSWER = "next-timeout", "timeout none"
 USAGE = "usage: recovery-trace [--state|--qlog] [--strict] [--controller NAME] [SEED [WINDOW]]\n"
 
-# a line that cannot be read, and what is told of it behind its number
+# a line that cannot be read, and the error after its number
 BAD = [
     ("nonsense 1", 'cannot read word 1, "nonsense"'),
     (" next-timeout", 'cannot read word 1, ""'),
@@ -55,18 +55,18 @@ BAD = [
     ("x" * 5000, "longer than 4096 bytes"),
 ]
 
-# the same of words that are no UTF-8
+# lines with words that are not UTF-8, and the error
 BYTES = [
     (b"\xff\xfe", r'cannot read word 1, "\xff\xfe"'),
     (b"lost data x\xc3", r'cannot read word 3, "x\xc3"'),
     (b"lost data \x80" + b"\x81" * 80, r'cannot read word 3, "\x80' + r"\x81" * 59 + '"'),
 ]
 
-# lines and answers that tell how a trace begins: 1.25 windows of 12,000 bytes a round-trip time of 1 ns are more than the bucket's
-# 12,000 bytes, 1 ns behind the beginning, which is the moment 0 (RFC 9002, 7.7)
+# Lines and answers that show how a trace begins: at 1.25 windows of 12,000 bytes per round-trip time of 1 ns, the bucket of 12,000
+# bytes is full again 1 ns after the beginning, which is time 0 (RFC 9002, 7.7).
 BEGINNING = [("sample 0 1", "done"), ("transmit 0 12000 0", "transmitted"), ("pacer-check 1 12000", "ready")]
 
-# lines, with the time behind each in nanoseconds: what tells no moment, or an earlier one, leaves it, and what is refused does not
+# lines, with the time after each in nanoseconds: a line without a time, or with an earlier one, leaves it as it is; an event that fails moves it
 TIMES = [
     ("next-timeout", 0), ("received data 7 0 1", 7), ("send data 8 1200 1 -", 8), ("acked data 9 0 0", 9), ("acked data 10 0 0", 10), ("sample 0 99", 10),
     ("set-timer idle 99", 10), ("transmit 5 1 0", 10), ("transmit 11 1 0", 11), ("pacer-check 12 0", 12), ("congestion 13 99 0 0", 13), ("end-acks 14 0 -", 14),
@@ -214,7 +214,7 @@ def page():
 
 
 def peak(count):
-    """The most memory that was held over so many lines, in KiB, once each is answered."""
+    """The peak memory in KiB over that number of lines, read once all are answered."""
     lines = [f"received data {number // 2} {number // 2} 0\nacks-sent data\n" for number in range(0, count, 2)]
     with subprocess.Popen([PROGRAM], stdin=subprocess.PIPE, stdout=subprocess.PIPE, text=True) as run:
         feeder = threading.Thread(target=lambda: (run.stdin.writelines(lines), run.stdin.flush()))

@@ -1,5 +1,5 @@
-"""What the scripts have in common: the crates of the repository, the toolchain that proves them, who works in the tree, how a script ends,
-and what a test counts."""
+"""Functions that the scripts share: the crates of the repository, the toolchain that proves them, the lock of the tree, the end of a script,
+and the counts of tests."""
 import contextlib
 import fcntl
 import itertools
@@ -13,9 +13,9 @@ import sys
 
 ROOT = pathlib.Path(__file__).resolve().parent.parent
 LOCK = ROOT / "out" / "lock"
-WORKS_IN = "QUIC_RECOVERY_WORKS_IN"  # the tree that whoever started this works in alone
-SHOWN = 1000  # characters of what a test found and wanted
-BASELINE = ["--cpu", "x86-64"]  # of the static library: it does not check on which processor it runs, as a program does
+WORKS_IN = "QUIC_RECOVERY_WORKS_IN"  # the tree that the script which started this one has for itself
+SHOWN = 1000  # characters of the values that a test found and expected
+BASELINE = ["--cpu", "x86-64"]  # for the static library: unlike a program, it does not check its processor
 
 
 LAUNCHERS = {
@@ -30,14 +30,14 @@ class Unfit(Exception):
 
 
 def listed(text=None):
-    """The crates of crates.txt, or of such a text, in order, each with all that it stands on, the kit's crates among it."""
+    """The crates of crates.txt, or of another text in its form, in order, each with the dependencies that its line names, the kit's among them."""
     text = (ROOT / "crates.txt").read_text() if text is None else text
     lines = (line.partition("#")[0].partition(":") for line in text.splitlines())
     return [(name.split()[0], below.split()) for name, colon, below in lines if colon]
 
 
 def rows():
-    """The crates of crates.txt in order, each with those of the repository that it stands on."""
+    """The crates of crates.txt in order, each with those of its line's dependencies that are in the repository."""
     found = listed()
     names = {name for name, _ in found}
     return [(name, [it for it in below if it in names]) for name, below in found]
@@ -54,7 +54,7 @@ def list_of(names):
 
 
 def made_of(target):
-    """The crates that one is made of, those that it stands on first, each with what it stands on."""
+    """A crate and its dependencies, the lowest first, each with its own."""
     needs, found = crates(), {}
 
     def want(name):
@@ -68,7 +68,7 @@ def made_of(target):
 
 
 def lanes(memory_each):
-    """How many checks run side by side: one a processor, where there is so much memory for each, in kB."""
+    """The number of checks that can run at a time: one per processor, if each has this much memory, in kB."""
     free = next(int(it.split()[1]) for it in open("/proc/meminfo") if it.startswith("MemAvailable"))
     return max(1, min(len(os.sched_getaffinity(0)), free // memory_each))
 
@@ -80,7 +80,7 @@ def kit():
     for at in [pathlib.Path(folder), *pathlib.Path(folder).parents]:
         if (at / "c" / "liblibc_c.a").is_file():
             return at
-    raise Unfit("there is no liblibc_c.a beside the toolchain's rt")
+    raise Unfit("there is no liblibc_c.a next to the toolchain's rt")
 
 
 def rlib(name):
@@ -99,13 +99,13 @@ def is_newer(built, name):
 
 
 def below(name):
-    """The crates that one stands on, the lowest first."""
+    """The dependencies of a crate, the lowest first."""
     return [it for it in made_of(name) if it != name]
 
 
 def words_of(name, *more):
-    """How the compiler is asked for a crate, over what those below it were built as, by the gate or by a check. One job: a further one reads all that
-    stands below once more."""
+    """The compiler's arguments for a crate, over the builds of its dependencies, which the gate or a check made. One job, since each further one reads
+    all dependencies once more."""
     uses, at = dict(listed()), kit()
     named = {it: rlib(it) if it in uses else at / "rlibs" / f"{it}.rlib" for it in ("std", *uses[name])}
     root = next(it for it in ("src/lib.rt", "src/main.rt") if (ROOT / "crates" / name / it).is_file())
@@ -132,7 +132,7 @@ def is_toolchain_missing():
 
 
 def asked(function, *words):
-    """What a function of `launch` says; if it fails, the exception has what it said of that."""
+    """What a function of `launch` prints. If it fails, the exception has its error."""
     said = subprocess.run(["bash", "-c", f'. "$0" && {function} "$@"', ROOT / "launch", *words], stdin=subprocess.DEVNULL, stdout=subprocess.PIPE,
                           stderr=subprocess.PIPE, text=True)
     if said.returncode:
@@ -146,7 +146,7 @@ def prebuilt(crate, file):
 
 
 def other_logic():
-    """A warning where the toolchain's logic is another than the one that the proofs are written for, else nothing."""
+    """A warning if the toolchain's logic is not the one that the proofs are written for, else nothing."""
     if is_toolchain_missing():
         raise Unfit(MISSING)
     said = subprocess.run(["rt", "version"], stdin=subprocess.DEVNULL, stdout=subprocess.PIPE, stderr=subprocess.STDOUT, text=True).stdout
@@ -158,8 +158,8 @@ def other_logic():
 
 @contextlib.contextmanager
 def alone(who, tell):
-    """The tree for this script: where another proves in it, tells so and waits until that has ended. What this script starts works in the
-    tree as a part of it, and waits for nobody."""
+    """The tree for this script alone. While another script works in it, this one says so and waits. A script that this one starts works as a part
+    of it, and does not wait."""
     if os.environ.get(WORKS_IN) == str(ROOT):
         yield
         return
@@ -188,7 +188,7 @@ def alone(who, tell):
 
 @contextlib.contextmanager
 def locked(crate):
-    """No rt works in a crate's folder meanwhile."""
+    """A lock under which no rt works in a crate's folder."""
     folder = os.open(crate, os.O_RDONLY)
     try:
         fcntl.flock(folder, fcntl.LOCK_EX)
@@ -198,20 +198,20 @@ def locked(crate):
 
 
 def stop_on_signals():
-    """The signals that ask for an end interrupt, as ctrl-C does, but where whoever started this chose to ignore them."""
+    """SIGTERM and SIGHUP interrupt, as ctrl-C does, unless the caller chose to ignore them."""
     for it in signal.SIGTERM, signal.SIGHUP:
         if signal.getsignal(it) is signal.SIG_DFL:
             signal.signal(it, signal.default_int_handler)
 
 
 def silence():
-    """What is written from here on goes nowhere."""
+    """Discards all further output."""
     for stream in sys.stdout, sys.stderr:
         os.dup2(os.open(os.devnull, os.O_WRONLY), stream.fileno())
 
 
 def arguments(parser):
-    """What a script is given. Where it is to tell of itself, and nobody reads that, all is well."""
+    """The arguments of a script. If it is asked for its help and nobody reads that, it ends well."""
     try:
         return parser.parse_args()
     except BrokenPipeError:
@@ -220,8 +220,8 @@ def arguments(parser):
 
 
 def ends_quietly(main):
-    """Runs a script. Where nobody reads any more what it writes, it ends without a word: with its own status where all was done, else with
-    that of a program that the signal ends."""
+    """Runs a script. If its output is no longer read, it ends without an error text: with its own status if all was done, else with that of a
+    program that the signal ends."""
     status = 128 + signal.SIGPIPE
     try:
         try:
@@ -243,8 +243,8 @@ def timers():
 
 
 def refusals():
-    """The refusals in the order of their numbers, from 1 on, as the library has them: the name of each, and its text; `{0}` stands for a text
-    that it holds."""
+    """The errors in the order of their numbers, from 1 on, as the library has them: the name of each and its text, in which `{0}` is a text that the
+    error has."""
     body = re.search(r"^pub enum Refusal \{\n(.*?)^\}", (ROOT / "crates" / "recovery_events" / "src" / "event.rt").read_text(), re.M | re.S)[1]
     return [(name, said) for said, name in re.findall(r'#\[error\("([^"]+)"\)\]\n    (\w+)', body)]
 
@@ -264,7 +264,7 @@ class Tests:
             print(f"{self.name}: {what}: {shown}", file=sys.stderr, flush=True)
 
     def answers(self, what, script, found, wanted):
-        """What a program came to with a script: status, answers and errors. Of answers that differ the first is told, with its line."""
+        """A program's result with a script: status, answers and errors. If answers differ, the first is shown, with its line."""
         lines = [it for it in script.splitlines() if it and it[:1] not in ("#", b"#")]
         came, want = found[1].splitlines(), wanted[1].splitlines()
         parted = next((at for at, both in enumerate(itertools.zip_longest(came, want)) if both[0] != both[1]), None)
@@ -274,7 +274,7 @@ class Tests:
         self.expect(f"{what}: the line {told[0]!r}", *told[1:])
 
     def holds(self, what, holds, said=""):
-        """Whether it holds: where it does not, what was said is told."""
+        """Whether it holds. If it does not, the reason is shown."""
         self.passed += bool(holds)
         if not holds:
             self.failed += 1

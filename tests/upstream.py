@@ -41,14 +41,14 @@ def edit(old, new):
 
 
 def write(path, text):
-    """Writes a file where it is another one, so that nothing is compiled anew for it."""
+    """Writes a file only if its text changes, so that nothing is compiled again without need."""
     path.parent.mkdir(parents=True, exist_ok=True)
     if not path.is_file() or path.read_text() != text:
         path.write_text(text)
 
 
 def without_theirs(tests, ours, theirs):
-    """No line of our files stands in theirs, but for words that every program in the language has."""
+    """No line of our files is in theirs, except short ones that every program in the language has."""
     plain = lambda line: " ".join(line.split())
     known = {plain(line) for file in theirs for line in file.read_text().splitlines()}
     for file in sorted(ours):

@@ -1,19 +1,22 @@
 #!/usr/bin/env python3
-"""Tries the wrong bodies of crates/NAME/wrong and crates/NAME/must-fail: the prover must refuse each, by a goal of the function that it turns. Those of a
-crate are tried in one check of the functions that they turn. Each other function keeps its contract alone there, since a proof rests on no other function's
-body.
-If two turn one function, the second turns a copy of it, with its contract and its answers. Such a function has one copy more, in which nothing is turned:
-if that is not proved, the copies show nothing, and count as not refused. A line 'goal: NAME' says by which goal a body must be refused: then the answers
-to the function's other goals are set aside, and so are the goals that a line 'also: NAME, NAME' lists, on which a search would take its time.
+"""Tries the wrong bodies of crates/NAME/wrong and crates/NAME/must-fail. The prover must reject each, by a goal of the function that it changes. All of a
+crate are tried in one check of the functions that they change. Of each other function only the contract is left there, since no proof depends on the body of
+another function.
+
+If two of them change the same function, the second changes a copy of it, which has the same contract and answers. There is then one more copy without a
+change. If that one is not proved, the copies show nothing, and all wrong bodies of the check count as not rejected.
+
+A line 'goal: NAME' names the goal that must reject the body. Then the answers to the function's other goals are set aside. A line 'also: NAME, NAME' lists
+further goals that are set aside, because a search for them would take long.
 
     tests/wrong_bodies.py                         all
-    tests/wrong_bodies.py recovery_ids            a crate's
-    tests/wrong_bodies.py recovery_ids next__     those of its wrong bodies whose names begin so
-    tests/wrong_bodies.py --goals recovery_ids    says of each by which goals it is refused
+    tests/wrong_bodies.py recovery_ids            those of one crate
+    tests/wrong_bodies.py recovery_ids next__     those of its wrong bodies whose names begin with next__
+    tests/wrong_bodies.py --goals recovery_ids    also prints the goals that reject each body
 
-Such a file is written as the toolchain has it, whose rt must-fail tries those of must-fail/ too, each by itself. A line 'fn: queue::CidQueue::next', in
-must-fail/ '# fn: ..', names the function as a check prints it; without one, it is the function that has the text. What the crate stands on has to be
-built (./prove NAME)."""
+The files have the toolchain's format: its rt must-fail tries those of must-fail/ too, each by itself. A line 'fn: queue::CidQueue::next' (in must-fail/,
+'# fn: ..') names the function as a check prints it. Without this line it is the function that has the text. The crate's dependencies must be built
+(./prove NAME)."""
 import argparse
 import copy
 import pathlib
@@ -30,7 +33,7 @@ from tree import ROOT
 MEMORY_EACH = 3_000_000  # kB, of one check
 
 VERDICT = re.compile(r"fn (\S+): (proved|not proved|no proof|could not tell)(.*)")
-PROVED = re.compile(r"fn (\S+): (?:proved$|(?:no proof:|not proved;) it calls)")  # proved, but for what it calls
+PROVED = re.compile(r"fn (\S+): (?:proved$|(?:no proof:|not proved;) it calls)")  # proved, except for its callees
 UNANSWERED = re.compile(r"`search` did not prove ((?:`[^`]+`(?:, | and |,? )?)+)")
 NOTED = re.compile(r"note: src/\S+: it is not proved that .*\(`([^`]+)`\)")  # a goal of the function whose verdict comes next
 ANSWERED = re.compile(r"\./proofs/(\S+)/\w+\.antt:\d+:\d+: error: `([^`]+)`: (.*)")
@@ -38,11 +41,11 @@ TYPE = re.compile(r"(?:pub(?:\(\w+\))? )?(?:struct|enum) (\w+)")
 BLOCK = re.compile(r"(?:pub(?:\(\w+\))? |unsafe )*(?:impl|trait)\b")
 METHODS = re.compile(r"impl(?:<.*?>)? (\w+)(?!.* for )")
 FUNCTION = re.compile(r"( {4})?(?:pub(?:\(\w+\))? )?(?:const )?fn (\w+)")
-GONE = re.compile(r"has no (field )?`|is not in scope|was not admitted")  # what an answer says of a name that is gone: no goal refuses that
+GONE = re.compile(r"has no (field )?`|is not in scope|was not admitted")  # an answer cites a name that no longer exists: no goal rejects that
 
 
 class Edit:
-    """A wrong body: the function that it turns, and in which file what stands in place of what."""
+    """A wrong body: the function that it changes, and the texts that it replaces, each with its file."""
 
     def __init__(self, path):
         self.name, self.function, self.goal, self.also, self.pairs, file, old = path.stem, None, None, [], [], None, None
@@ -60,13 +63,13 @@ class Edit:
             elif word == "new":
                 self.pairs.append((file, old, rest))
         if not self.turns():
-            raise tree.Unfit(f"{path}: it turns nothing")
+            raise tree.Unfit(f"{path}: it changes nothing")
         self.function = self.function or function_with(path.parent.parent, *self.pairs[0][:2])
         if not self.function:
-            raise tree.Unfit(f"{path}: no function has its text, so a line 'fn: ' has to name one")
+            raise tree.Unfit(f"{path}: no function has its text, so a line 'fn: ' must name one")
 
     def unturned(self):
-        """The same function with nothing turned."""
+        """The same function without a change."""
         found = copy.copy(self)
         found.goal, found.pairs = None, [(file, old, old) for file, old, _ in self.pairs]
         return found
@@ -108,7 +111,7 @@ def texts(src):
 
 
 def functions(lines, at, types):
-    """The functions of a file: the parts of each one's name, as a check prints it, and where its signature begins; none of traits, macros and tests."""
+    """The functions of a file, except those of traits, macros and tests: the parts of each name, as a check prints it, and the line of its signature."""
     owner, before = None, ""
     for number, line in enumerate(lines):
         if BLOCK.match(line):
@@ -123,7 +126,7 @@ def functions(lines, at, types):
 
 
 def body(lines, start):
-    """Which lines stand in the braces of the function whose signature begins there; nothing where these close on the line on which they open."""
+    """Which lines are in the braces of the function whose signature begins there; nothing if the braces are on one line."""
     indent = re.match(" *", lines[start])[0]
     signs = lambda at: at == start or lines[at].startswith((f"{indent}{{", f"{indent})"))
     opens = next(at for at in range(start, len(lines)) if signs(at) and lines[at].endswith(("{", "}")))
@@ -158,14 +161,14 @@ def place(crate, file, function):
 
 
 def is_copied(crate, edit):
-    """Whether an edit can turn a copy of its function: if all that it changes is in it."""
+    """Whether an edit can change a copy of its function: if all that it changes is in it."""
     lines, there = place(crate, edit.pairs[0][0], edit.function)
     text = there and "\n".join(lines[there])
     return bool(there) and all(file == edit.pairs[0][0] and text.count(old) == 1 for file, old, _ in edit.pairs)
 
 
 def copy_function(crate, to, edit, name):
-    """Puts behind a function a copy of it, turned by the edit and with another name, and a copy of its answers."""
+    """Puts after a function a copy of it, changed by the edit and with another name, and a copy of its answers."""
     *owner, own = edit.function.split("::")
     new = name.split("::")[-1]
     file = edit.pairs[0][0]
@@ -183,7 +186,7 @@ def copy_function(crate, to, edit, name):
 
 
 def answer_alone(crate, folder, name, edit):
-    """Leaves of the answers of a function the one to the goal of an edit, and those that it names."""
+    """Leaves of a function's answers only the one to the goal of an edit, and those that this answer names."""
     file = folder / "proofs" / pathlib.Path(*name.split("::")) / "Answers.antt"
     uses = f"use Rattle.{crate}.proofs.{name.replace('::', '.')}.Goals as goal\n\n"
     first, *blocks = re.split(r"^(?=pub [^\n]+ : goal\.)", file.read_text() if file.exists() else uses, flags=re.M)
@@ -200,7 +203,7 @@ def answer_alone(crate, folder, name, edit):
 
 
 def set_aside(crate, folder, kept):
-    """Leaves all functions but those that are kept no more than their contracts: a body that never ends, and for its proof a name that is nowhere."""
+    """Leaves only the contract of each function that is not in `kept`: its body becomes an endless loop, and its proof an undefined name."""
     files = [*texts(folder / "src")]
     types = {found[1]: at for _, at, lines in files for found in map(TYPE.match, lines) if found}
     for file, at, lines in files:
@@ -213,7 +216,7 @@ def set_aside(crate, folder, kept):
 
 
 def refuse(crate, folder, parts):
-    """Puts a name that is nowhere in place of a function's proof."""
+    """Puts an undefined name in place of a function's proof."""
     room = folder / "proofs" / pathlib.Path(*parts)
     room.mkdir(parents=True, exist_ok=True)
     for it in "Answers.antt", "Invariants.antt":
@@ -229,7 +232,7 @@ def checked(crate, edits):
         for room in "src", "specs", "proofs":
             if (ROOT / "crates" / crate / room).is_dir():
                 shutil.copytree(ROOT / "crates" / crate / room, pathlib.Path(folder, room))
-        for name, it in sorted(edits.items(), key=lambda of: of[0] != of[1].function):  # copies last: of each text there is one
+        for name, it in sorted(edits.items(), key=lambda of: of[0] != of[1].function):  # copies last: until then each text occurs once
             if name == it.function:
                 it.turn(pathlib.Path(folder))
             else:
@@ -245,7 +248,7 @@ def checked(crate, edits):
 
 
 def refused(crate, said):
-    """The functions that are refused themselves, and not for what they call, each with the goals that are not proved."""
+    """The functions that are rejected themselves, and not because of a call, each with the goals that are not proved."""
     found, noted, answered = {}, [], {}
     for line in said.splitlines():
         if of_answer := ANSWERED.match(line):
@@ -265,7 +268,7 @@ def refused(crate, said):
 
 
 def try_round(crate, edits):
-    """Each edit that turns something with the goals that refuse it, and what is wrong where none does."""
+    """Each edit that changes something, with the goals that reject it, and what is wrong if none does."""
     wrong = {name: it for name, it in edits.items() if it.turns()}
     for_all = lambda why: [(it, [], why) for it in wrong.values()]
     try:
@@ -275,13 +278,13 @@ def try_round(crate, edits):
     found, lines = refused(crate, said), said.rstrip().splitlines()
     others = sorted(name for name, goals in found.items() if goals and name not in edits)
     if others:
-        return for_all(f"refused is what none of the edits turns: {', '.join(others)}")
+        return for_all(f"rejected functions that no edit changes: {', '.join(others)}")
     proved = {it[1] for it in map(PROVED.match, lines) if it}
     unproved = [name for name in edits if name not in wrong and (f"{crate}::{name}" not in proved or found.get(name))]
     if unproved:
-        return for_all(f"not proved is a copy in which nothing is turned: {', '.join(unproved)}")
+        return for_all(f"copies without a change that are not proved: {', '.join(unproved)}")
     refusing = lambda name, it: [goal for goal in found.get(name, []) if it.goal in (None, goal)]
-    why = lambda name, it: f"{name} is not refused by {it.goal or 'any goal'}; the check ends in {lines[-1:]}"
+    why = lambda name, it: f"{name} is not rejected by {it.goal or 'any goal'}; the check ends in {lines[-1:]}"
     return [(it, refusing(name, it), why(name, it)) for name, it in wrong.items()]
 
 
@@ -290,7 +293,7 @@ def show(text):
 
 
 def try_all(crates, prefix, says_goals, tests):
-    """Tries those of these crates whose names begin so, what takes long first."""
+    """Tries those of these crates whose names begin with a prefix, the longest checks first."""
     work = []
     for crate in crates:
         files = [it for room in ("must-fail", "wrong") for it in sorted((ROOT / "crates" / crate / room).glob(f"{prefix}*.edit"))]
@@ -304,14 +307,14 @@ def try_all(crates, prefix, says_goals, tests):
             for edit, goals, why in found:
                 tests.holds(f"{crate}: {edit.name}", goals, why)
                 if says_goals:
-                    print(f"{crate}: {edit.name}: {', '.join(goals) or 'not refused'}", flush=True)
+                    print(f"{crate}: {edit.name}: {', '.join(goals) or 'not rejected'}", flush=True)
 
 
 def main():
     parser = argparse.ArgumentParser(description=__doc__, formatter_class=argparse.RawDescriptionHelpFormatter)
-    parser.add_argument("--goals", action="store_true", help="says of each which goals refuse it")
+    parser.add_argument("--goals", action="store_true", help="also prints the goals that reject each body")
     parser.add_argument("crate", nargs="?", choices=tree.crates(), metavar="CRATE", help="one crate")
-    parser.add_argument("name", nargs="?", default="", help="how the name of a wrong body begins")
+    parser.add_argument("name", nargs="?", default="", help="the beginning of a wrong body's name")
     given = tree.arguments(parser)
     tree.stop_on_signals()
     tests = tree.Tests("wrong bodies")

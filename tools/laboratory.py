@@ -1,4 +1,4 @@
-"""What tools/sweep and tools/plot have in common: where the built recovery-link is, and what it says of a run."""
+"""Functions that tools/sweep and tools/plot share: the path of the built recovery-link, and the figures of a run."""
 import os
 import pathlib
 import subprocess
