@@ -202,6 +202,15 @@ def answer_alone(crate, folder, name, edit):
     file.write_text(first + "".join({**aside, **kept}.values()))
 
 
+def want_no_offer(crate, folder, name):
+    """Puts an undefined name into the answers of a changed function. For a file with an error the check does not offer what to write there, which would
+    take up to a third of its time. The goals are tried as before."""
+    file = folder / "proofs" / pathlib.Path(*name.split("::")) / "Answers.antt"
+    file.parent.mkdir(parents=True, exist_ok=True)
+    text = file.read_text() if file.exists() else f"use Rattle.{crate}.proofs.{name.replace('::', '.')}.Goals as goal\n"
+    file.write_text(f"{text}\naside : set_aside\naside = set_aside\n")
+
+
 def set_aside(crate, folder, kept):
     """Leaves only the contract of each function that is not in `kept`: its body becomes an endless loop, and its proof an undefined name."""
     files = [*texts(folder / "src")]
@@ -240,6 +249,8 @@ def checked(crate, edits):
         for name, it in edits.items():
             if it.goal:
                 answer_alone(crate, pathlib.Path(folder), name, it)
+            if it.turns():
+                want_no_offer(crate, pathlib.Path(folder), name)
         set_aside(crate, pathlib.Path(folder), edits)
         only = [word for it in edits for word in ("--only", f"{crate}::{it}")]
         words = [tree.kit() / "bin" / "rattle", "check", "--short-goals", *tree.words_of(crate), *only]
