@@ -4,7 +4,7 @@ crate are tried in one check of the functions that they change. Of each other fu
 another function.
 
 If two of them change the same function, the second changes a copy of it, which has the same contract and answers. There is then one more copy without a
-change. If that one is not proved, the copies show nothing, and all wrong bodies of the check count as not rejected.
+change. If a goal of that one is left, the copies show nothing, and all wrong bodies of the check count as not rejected.
 
 A line 'goal: NAME' names the goal that must reject the body. Then the answers to the function's other goals are set aside. A line 'also: NAME, NAME' lists
 further goals that are set aside, because a search for them would take long.
@@ -33,7 +33,6 @@ from tree import ROOT
 MEMORY_EACH = 3_000_000  # kB, of one check
 
 VERDICT = re.compile(r"fn (\S+): (proved|not proved|no proof|could not tell)(.*)")
-PROVED = re.compile(r"fn (\S+): (?:proved$|(?:no proof:|not proved;) it calls)")  # proved, except for its callees
 UNANSWERED = re.compile(r"`search` did not prove ((?:`[^`]+`(?:, | and |,? )?)+)")
 NOTED = re.compile(r"note: src/\S+: it is not proved that .*\(`([^`]+)`\)")  # a goal of the function whose verdict comes next
 ANSWERED = re.compile(r"\./proofs/(\S+)/\w+\.antt:\d+:\d+: error: `([^`]+)`: (.*)")
@@ -203,8 +202,8 @@ def answer_alone(crate, folder, name, edit):
 
 
 def want_no_offer(crate, folder, name):
-    """Puts an undefined name into the answers of a changed function. For a file with an error the check does not offer what to write there, which would
-    take up to a third of its time. The goals are tried as before."""
+    """Puts an undefined name, `aside`, into the answers of a function. For a file with an error the check does not offer what to write there, which would
+    take up to a third of its time. The goals are tried as before, which the copies without a change show."""
     file = folder / "proofs" / pathlib.Path(*name.split("::")) / "Answers.antt"
     file.parent.mkdir(parents=True, exist_ok=True)
     text = file.read_text() if file.exists() else f"use Rattle.{crate}.proofs.{name.replace('::', '.')}.Goals as goal\n"
@@ -249,8 +248,7 @@ def checked(crate, edits):
         for name, it in edits.items():
             if it.goal:
                 answer_alone(crate, pathlib.Path(folder), name, it)
-            if it.turns():
-                want_no_offer(crate, pathlib.Path(folder), name)
+            want_no_offer(crate, pathlib.Path(folder), name)
         set_aside(crate, pathlib.Path(folder), edits)
         only = [word for it in edits for word in ("--only", f"{crate}::{it}")]
         words = [tree.kit() / "bin" / "rattle", "check", "--short-goals", *tree.words_of(crate), *only]
@@ -278,6 +276,14 @@ def refused(crate, said):
     return found
 
 
+def errors_of(said):
+    """The declarations with an error, by the function whose proof they are in."""
+    found = {}
+    for folder, name, _ in ANSWERED.findall(said):
+        found.setdefault(folder.replace("/", "::"), set()).add(name)
+    return found
+
+
 def try_round(crate, edits):
     """Each edit that changes something, with the goals that reject it, and what is wrong if none does."""
     wrong = {name: it for name, it in edits.items() if it.turns()}
@@ -290,8 +296,8 @@ def try_round(crate, edits):
     others = sorted(name for name, goals in found.items() if goals and name not in edits)
     if others:
         return for_all(f"rejected functions that no edit changes: {', '.join(others)}")
-    proved = {it[1] for it in map(PROVED.match, lines) if it}
-    unproved = [name for name in edits if name not in wrong and (f"{crate}::{name}" not in proved or found.get(name))]
+    errors = errors_of(said)
+    unproved = [name for name in edits if name not in wrong and (found.get(name) != [] or errors.get(name) != {"aside"})]
     if unproved:
         return for_all(f"copies without a change that are not proved: {', '.join(unproved)}")
     refusing = lambda name, it: [goal for goal in found.get(name, []) if it.goal in (None, goal)]
