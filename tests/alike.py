@@ -219,7 +219,7 @@ def main(about, program, source, script, error=str):
         return 0
     with tempfile.TemporaryDirectory() as folder:
         other = pathlib.Path(folder) / "careful"
-        subprocess.run(["rustc", "--edition", "2024", "-C", "opt-level=3", "-C", "panic=abort", CAREFUL / source, "-o", other], check=True)
+        subprocess.run(["rustc", "--edition", "2021", "-C", "opt-level=3", "-C", "panic=abort", CAREFUL / source, "-o", other], check=True)
         faults = [it for it in (fault(program, other, script, seed, error) for seed in range(chosen.seed, chosen.seed + chosen.count)) if it]
     for it in faults[:MOST_FAULTS]:
         print(f"alike: {it}", file=sys.stderr)

@@ -1,5 +1,6 @@
 // The same declarations from C++: a recovery that is freed when its owner is destroyed.
 #include "recovery_ffi.h"
+#include <cstdint>
 #include <cstdio>
 #include <stdexcept>
 

@@ -297,9 +297,7 @@ impl SentPackets {
         let from = self.filled_from.max(self.first);
         let place = ((from - self.first) as usize).min(self.slots.len());
         for (step, slot) in self.slots.range_mut(place..).enumerate() {
-            if let Some(packet) = slot
-                && !packet.items.is_empty()
-            {
+            if let Some(packet) = slot.as_mut().filter(|it| !it.items.is_empty()) {
                 self.filled_from = self.first + (place + step) as u64;
                 return Some(mem::take(&mut packet.items));
             }
@@ -464,10 +462,8 @@ impl RemoteIds {
         if number - low >= 8 {
             return Err(EXCEEDS_LIMIT);
         }
-        if number - active < 8
-            && let Some((held, held_token)) = &self.entries[(number % 8) as usize]
-            && !(*held == id && held_token.is_none_or(|held| held == token))
-        {
+        let entry = self.entries[(number % 8) as usize].as_ref().filter(|_| number - active < 8);
+        if entry.is_some_and(|(held, held_token)| *held != id || held_token.is_some_and(|held| held != token)) {
             return Err(CONFLICT);
         }
         self.drop_below(low);
@@ -559,7 +555,9 @@ impl LocalIds {
         self.count += count;
         self.unretired.extend(std::iter::repeat_n(true, count as usize));
         if let Some(deadline) = now.checked_add(LIFETIME) {
-            self.deadlines.pop_back_if(|last| last.1 == deadline);
+            if self.deadlines.back().is_some_and(|last| last.1 == deadline) {
+                self.deadlines.pop_back();
+            }
             self.deadlines.push_back((self.issued - 1, deadline));
         }
         Ok(())
@@ -569,10 +567,8 @@ impl LocalIds {
         if number >= self.issued {
             return Err(UNISSUED_CID);
         }
-        if let Some(place) = number.checked_sub(self.first)
-            && let Some(held) = self.unretired.get_mut(place as usize)
-            && mem::take(held)
-        {
+        let place = number.checked_sub(self.first);
+        if place.and_then(|it| self.unretired.get_mut(it as usize)).is_some_and(mem::take) {
             self.count -= 1;
             while let Some(false) = self.unretired.front() {
                 self.unretired.pop_front();
@@ -802,9 +798,7 @@ impl Detector {
         if self.count < 4 {
             self.bursts[self.count] = least;
             self.count += 1;
-        } else if let Some(kept) = self.bursts.iter_mut().min()
-            && *kept < least
-        {
+        } else if let Some(kept) = self.bursts.iter_mut().min().filter(|it| **it < least) {
             *kept = least;
         }
     }
@@ -892,31 +886,35 @@ impl MtuDiscovery {
     }
 
     fn on_acked(&mut self, number: u64, size: u16) -> bool {
-        if let Phase::Searching(probing) = &mut self.phase
-            && probing.in_flight == Some(number)
-        {
-            probing.in_flight = None;
-            probing.losses = 0;
-            self.current = probing.last;
-            self.detector.count = 0;
-            self.detector.acked_mtu = size;
-            self.detector.newest = number;
-            return true;
+        match &mut self.phase {
+            Phase::Searching(probing) if probing.in_flight == Some(number) => {
+                probing.in_flight = None;
+                probing.losses = 0;
+                self.current = probing.last;
+                self.detector.count = 0;
+                self.detector.acked_mtu = size;
+                self.detector.newest = number;
+                true
+            }
+            _ => {
+                self.detector.on_acked(number, size);
+                false
+            }
         }
-        self.detector.on_acked(number, size);
-        false
     }
 
     fn on_lost(&mut self, number: u64, size: u16) -> bool {
-        if let Phase::Searching(probing) = &mut self.phase
-            && probing.in_flight == Some(number)
-        {
-            probing.in_flight = None;
-            probing.losses += 1;
-            return true;
+        match &mut self.phase {
+            Phase::Searching(probing) if probing.in_flight == Some(number) => {
+                probing.in_flight = None;
+                probing.losses += 1;
+                true
+            }
+            _ => {
+                self.detector.on_lost(number, size);
+                false
+            }
         }
-        self.detector.on_lost(number, size);
-        false
     }
 
     fn black_hole(&mut self, now: Moment) -> bool {

@@ -253,11 +253,11 @@ impl Sender {
             self.end_skip(goes_out);
         }
         let answer = reply?;
-        if goes_out && let Some(now) = sent {
-            self.base = now;
-        }
-        if goes_out && let Some((space, count)) = self.probes.filter(|(space, _)| elicits == Some(*space)) {
-            self.probes = Some((space, count - 1)).filter(|(_, count)| *count > 0);
+        if goes_out {
+            self.base = sent.unwrap_or(self.base);
+            if let Some((space, count)) = self.probes.filter(|(space, _)| elicits == Some(*space)) {
+                self.probes = Some((space, count - 1)).filter(|(_, count)| *count > 0);
+            }
         }
         if fresh {
             self.begin_window();
