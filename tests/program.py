@@ -6,25 +6,25 @@ import pathlib
 import re
 import shutil
 import subprocess
-import sys
 import tempfile
 import time
+import unittest
 
 import tree
 from tree import ROOT
 
 ROWS = ROOT / "tests" / "rows"
-PROGRAM = ROOT / "crates" / "recovery_program" / "out" / "recovery_program"
+PROGRAM = tree.built_program("recovery_program")
 USAGE = b"usage: recovery-replay [SEED [WINDOW]]\n"
 LINE, ANSWER = b"next-timeout\n", b"timeout none\n"
 UNPROVED = re.compile(rb"recovery-replay: not proved yet: .*\n")
-LAUNCHERS = {
-    "recovery-replay": "recovery_program", "recovery-trace": "recovery_trace", "recovery-sender": "recovery_sender_program",
-    "recovery-pictures": "recovery_pictures", "recovery-link": "recovery_link",
-}
-
-tests = tree.Tests("program")
-expect = tests.expect
+PAGES = [(word, *launcher) for launcher in tree.LAUNCHERS.items() for word in ("--help", "--version")]
+ACCEPTED = [[], ["0"], ["18446744073709551615"], ["-"], ["1", "2"], ["-", "24000"], ["-", "18446744073709551615"]]
+REJECTED = [
+    ["18446744073709551616"], ["01"], ["+1"], [""], ["1 "], ["--"], ["-1"], [b"\xff"], ["1", "0"], ["1", ""],
+    *(["-", it] for it in ("0", "-", "", "+1", "01", "02", "18446744073709551616")),
+    ["", "1"], ["1", "2", "3"], ["-", "1", "1"],
+]
 
 
 def ran(words, given=LINE, **how):
@@ -62,115 +62,139 @@ def scripts(path):
     assert here is None, f"{path.name} ends within a script"
 
 
-def rows():
-    """Runs each script of tests/rows with its arguments, or, if it names none, without any and with '-' (no seed). An empty
+def runs():
+    """Each script of tests/rows with the arguments that it names, or, if it names none, without any and with '-' (no seed). An empty
     line ends a script, and a line that cannot be read is one of its own; `3 times: LINE => ANSWER` is three lines, and
     `0 to 6: LINE => ANSWER` seven, in whose answers {} is the number."""
     for path in sorted(ROWS.glob("*.txt")):
         for place, words, lines, answers in scripts(path):
             for arguments in [words] if words else [[], ["-"]]:
-                name = f"{path.name}, line {place}, with arguments {arguments}"
-                if answers is None:
-                    line = lines[0].encode().decode("unicode_escape").encode("latin-1")
-                    found = ran([PROGRAM, *arguments], LINE + line + b"\n" + LINE)
-                    expect(name, found, (2, ANSWER, b"line 2: cannot be read\n"))
-                else:
-                    script, wanted = "\n".join(lines).encode(), "".join(f"{it}\n" for it in answers).encode()
-                    for end in b"\n", b"":
-                        tests.answers(name, script, ran([PROGRAM, *arguments], script + end), (0, wanted, b""))
+                yield " ".join([f"{path.name}:{place}", *arguments]), arguments, lines, answers
 
 
-def arguments():
-    for words in [], ["0"], ["18446744073709551615"], ["-"], ["1", "2"], ["-", "24000"], ["-", "18446744073709551615"]:
-        expect(f"arguments {words}", ran([PROGRAM, *words], LINE), (0, ANSWER, b""))
-    refused = [["18446744073709551616"], ["01"], ["+1"], [""], ["1 "], ["--"], ["-1"], [b"\xff"]]
-    refused += [["1", it] for it in ("0", "")] + [["-", it] for it in ("0", "-", "", "+1", "01", "02", "18446744073709551616")]
-    for words in *refused, ["", "1"], ["1", "2", "3"], ["-", "1", "1"]:
-        for program in PROGRAM, ROOT / "recovery-replay":
-            expect(f"{program.name} with arguments {words}", ran([program, *words], LINE), (2, b"", USAGE))
-
-
-def pages():
-    """What the program says of itself is on standard output."""
-    status, text, errors = ran([PROGRAM, "--help"], stdin=subprocess.DEVNULL)
-    expect("help", (status, text.startswith(USAGE), b"recovery-trace" in text, errors), (0, True, True, b""))
-    expect("version", ran([PROGRAM, "--version"], stdin=subprocess.DEVNULL), (0, b"recovery-replay 0.2.0 after quinn-proto 0.11.19\n", b""))
-    for words in ["--help", "1"], ["1", "--version"], ["--helpful"]:
-        expect(f"arguments {words}", ran([PROGRAM, *words]), (2, b"", USAGE))
-    with open("/dev/full", "wb") as full:
-        expect("a failed page", ran([PROGRAM, "--help"], stdout=full), (1, None, b"replay: write failed\n"))
-
-
-def closed_pipe():
-    """Nobody reads the answers: no failure."""
-    for words in [], ["--help"], ["--version"]:
-        left, right = os.pipe()
-        os.close(left)
-        expect(f"a closed pipe, {words}", ran([PROGRAM, *words], stdout=right), (0, None, b""))
-        os.close(right)
-
-
-def streams():
-    folder = os.open(ROOT, os.O_RDONLY)
-    expect("a failed read", ran([PROGRAM], stdin=folder), (1, b"", b"replay: read failed\n"))
-    with open("/dev/full", "wb") as full:
-        expect("a failed write", ran([PROGRAM], LINE, stdout=full), (1, None, b"replay: write failed\n"))
-        expect("a failed text", ran([PROGRAM], LINE + b"bad\n", stderr=full), (2, ANSWER, None))
-    expect("a bad line", ran([PROGRAM], LINE + b"\n" + LINE), (2, ANSWER, b"line 2: cannot be read\n"))
-    expect("a long line", ran([PROGRAM], LINE + b"a" * 4097 + b"\n" + LINE), (2, ANSWER, b"line 2: cannot be read\n"))
-    expect("no line feed", ran([PROGRAM], LINE.strip()), (0, ANSWER, b""))
-    expect("no input", ran([PROGRAM], stdin=subprocess.DEVNULL), (0, b"", b""))
-
-
-def unproved():
-    """A copy of the repository in which nothing was built, and nothing is prebuilt; its sources run by the toolchain."""
-    if tree.is_toolchain_missing():
-        return
-    with tempfile.TemporaryDirectory() as folder:
-        fresh = pathlib.Path(folder, "fresh")
-        shutil.copytree(ROOT, fresh, ignore=shutil.ignore_patterns("out", ".git", "prebuilt"))
-        began = time.time()
-        status, output, errors = ran([fresh / "recovery-replay"], LINE + b"bad\n")
-        expect("unproved sources", (status, output, UNPROVED.sub(b"", errors)), (2, ANSWER, b"line 2: cannot be read\n"))
-        expect("they answer within two minutes", time.time() - began < 120, True)
-
-
-def launchers():
-    """What the launchers say without their programs is what those say; a launcher runs the proved program."""
-    for name, crate in LAUNCHERS.items():
-        program = ROOT / "crates" / crate / "out" / crate
-        usage = (ROOT / "crates" / crate / "help.txt").read_bytes()
-        version = f"{name} {(ROOT / 'VERSION').read_text()}".encode()
-        for word, page in ("--help", usage), ("--version", version):
-            for it in [program, ROOT / name] if program.is_file() else []:
-                expect(f"{it.name} {word}", ran([it, word]), (0, page, b""))
-    for given in LINE, b"":
-        expect("recovery-replay", ran([ROOT / "recovery-replay"], given), (0, ANSWER if given else b"", b""))
-
-
-def closed():
-    """A pipe whose reader is gone is no failure."""
-    for name, crate in LAUNCHERS.items():
-        if (ROOT / "crates" / crate / "out" / crate).is_file():
-            reader, writer = os.pipe()
-            os.close(reader)
-            expect(f"{name}, and nobody reads", ran([ROOT / name, "--help"], LINE, stdout=writer), (0, None, b""))
-            os.close(writer)
-
-
-def main():
+def setUpModule():
     if not PROGRAM.is_file():
-        sys.exit("program: there is no proved program: ./prove builds it")
-    rows()
-    arguments()
-    pages()
-    closed_pipe()
-    streams()
-    unproved()
-    launchers()
-    closed()
-    tests.end()
+        raise tree.Unfit("there is no proved program: ./prove builds it")
+
+
+class Rows(tree.TestCase):
+    def answered(self, words, lines, answers, end):
+        script, wanted = "\n".join(lines).encode(), "".join(f"{it}\n" for it in answers).encode()
+        self.assertAnswers(script, ran([PROGRAM, *words], script + end), (0, wanted, b""))
+
+    @tree.each(it for it in runs() if it[3] is not None)
+    def test_script(self, _, words, lines, answers):
+        self.answered(words, lines, answers, b"\n")
+
+    @tree.each(it for it in runs() if it[3] is not None)
+    def test_script_without_last_line_feed(self, _, words, lines, answers):
+        self.answered(words, lines, answers, b"")
+
+    @tree.each(it for it in runs() if it[3] is None)
+    def test_line_that_cannot_be_read(self, _, words, lines, answers):
+        line = lines[0].encode().decode("unicode_escape").encode("latin-1")
+        found = ran([PROGRAM, *words], LINE + line + b"\n" + LINE)
+        self.assertEqual(found, (2, ANSWER, b"line 2: cannot be read\n"))
+
+
+class Arguments(tree.TestCase):
+    @tree.each((it,) for it in ACCEPTED)
+    def test_accepted(self, words):
+        self.assertEqual(ran([PROGRAM, *words]), (0, ANSWER, b""))
+
+    @tree.each(((it, program) for it in REJECTED for program in (PROGRAM, ROOT / "recovery-replay")), "{0} by {1.name}")
+    def test_rejected(self, words, program):
+        self.assertEqual(ran([program, *words]), (2, b"", USAGE))
+
+
+class Pages(tree.TestCase):
+    """What the program says of itself is on standard output."""
+
+    def test_help(self):
+        status, text, errors = ran([PROGRAM, "--help"], stdin=subprocess.DEVNULL)
+        self.assertEqual((status, text.startswith(USAGE), b"recovery-trace" in text, errors), (0, True, True, b""))
+
+    def test_version(self):
+        found = ran([PROGRAM, "--version"], stdin=subprocess.DEVNULL)
+        self.assertEqual(found, (0, b"recovery-replay 0.2.0 after quinn-proto 0.11.19\n", b""))
+
+    @tree.each((it,) for it in (["--help", "1"], ["1", "--version"], ["--helpful"]))
+    def test_no_page(self, words):
+        self.assertEqual(ran([PROGRAM, *words]), (2, b"", USAGE))
+
+
+class Streams(tree.TestCase):
+    def test_failed_read(self):
+        folder = os.open(ROOT, os.O_RDONLY)
+        self.addCleanup(os.close, folder)
+        self.assertEqual(ran([PROGRAM], stdin=folder), (1, b"", b"replay: read failed\n"))
+
+    @tree.each((it,) for it in ([], ["--help"]))
+    def test_failed_write(self, words):
+        with open("/dev/full", "wb") as full:
+            self.assertEqual(ran([PROGRAM, *words], stdout=full), (1, None, b"replay: write failed\n"))
+
+    def test_failed_write_of_an_error(self):
+        with open("/dev/full", "wb") as full:
+            self.assertEqual(ran([PROGRAM], LINE + b"bad\n", stderr=full), (2, ANSWER, None))
+
+    @tree.each((it,) for it in ([], ["--help"], ["--version"]))
+    def test_nobody_reads(self, words):
+        with tree.unread() as pipe:
+            self.assertEqual(ran([PROGRAM, *words], stdout=pipe), (0, None, b""))
+
+    @tree.each([("empty", b""), ("long", b"a" * 4097)])
+    def test_bad_line(self, _, line):
+        self.assertEqual(ran([PROGRAM], LINE + line + b"\n" + LINE), (2, ANSWER, b"line 2: cannot be read\n"))
+
+    def test_no_line_feed(self):
+        self.assertEqual(ran([PROGRAM], LINE.strip()), (0, ANSWER, b""))
+
+    def test_no_input(self):
+        self.assertEqual(ran([PROGRAM], stdin=subprocess.DEVNULL), (0, b"", b""))
+
+
+class Launchers(tree.TestCase):
+    """A launcher runs the proved program. What it says without its program is what that says."""
+
+    def needs(self, crate):
+        if not tree.built_program(crate).is_file():
+            self.skipTest(f"{crate} is not built: ./prove {crate}")
+
+    def prints(self, program, word, crate, name):
+        self.needs(crate)
+        page = (ROOT / "crates" / crate / "help.txt").read_text() if word == "--help" else f"{name} {(ROOT / 'VERSION').read_text()}"
+        self.assertEqual(ran([program, word]), (0, page.encode(), b""))
+
+    @tree.each(PAGES, "{2} {0}")
+    def test_launcher(self, word, crate, name):
+        self.prints(ROOT / name, word, crate, name)
+
+    @tree.each(PAGES, "{2} {0}")
+    def test_program(self, word, crate, name):
+        self.prints(tree.built_program(crate), word, crate, name)
+
+    @tree.each(tree.LAUNCHERS.items(), "{1}")
+    def test_nobody_reads(self, crate, name):
+        self.needs(crate)
+        with tree.unread() as pipe:
+            self.assertEqual(ran([ROOT / name, "--help"], stdout=pipe), (0, None, b""))
+
+    @tree.each([("a line", LINE, ANSWER), ("nothing", b"", b"")])
+    def test_recovery_replay(self, _, given, answer):
+        self.assertEqual(ran([ROOT / "recovery-replay"], given), (0, answer, b""))
+
+    @unittest.skipIf(tree.is_toolchain_missing(), tree.MISSING)
+    def test_unproved_sources(self):
+        """In a copy of the repository in which nothing was built, and nothing is prebuilt, the toolchain runs the sources."""
+        with tempfile.TemporaryDirectory() as folder:
+            fresh = pathlib.Path(folder, "fresh")
+            shutil.copytree(ROOT, fresh, ignore=shutil.ignore_patterns("out", ".git", "prebuilt"))
+            began = time.time()
+            status, output, errors = ran([fresh / "recovery-replay"], LINE + b"bad\n")
+        self.assertEqual((status, output, UNPROVED.sub(b"", errors)), (2, ANSWER, b"line 2: cannot be read\n"))
+        self.assertLess(time.time() - began, 120, "seconds until they answered")
 
 
 if __name__ == "__main__":
-    main()
+    tree.main("program")

@@ -1,6 +1,9 @@
 """Functions that the scripts share: the crates of the repository, the toolchain that proves them, the lock of the tree, the end of a script,
-and the counts of tests."""
+and the tests of a script, which are those of Python's unittest (`TestCase`, `each`, `main`)."""
+import argparse
+import collections
 import contextlib
+import difflib
 import fcntl
 import itertools
 import os
@@ -10,11 +13,14 @@ import shutil
 import signal
 import subprocess
 import sys
+import unittest
 
 ROOT = pathlib.Path(__file__).resolve().parent.parent
 LOCK = ROOT / "out" / "lock"
 WORKS_IN = "QUIC_RECOVERY_WORKS_IN"  # the tree that the script which started this one has for itself
 SHOWN = 1000  # characters of the values that a test found and expected
+SHOWN_LINES = 60  # of the difference between two programs' answers
+__unittest = True  # tracebacks of failures leave out this file
 BASELINE = ["--cpu", "x86-64"]  # for the static library: unlike a program, it does not check its processor
 
 
@@ -284,6 +290,115 @@ class Tests:
     def end(self):
         print(f"{self.name}: {self.passed} passed, {self.failed} failed")
         sys.exit(self.failed > 0)
+
+
+class TestCase(unittest.TestCase):
+    """Tests whose failures show all that differs."""
+
+    maxDiff = None
+
+    def __str__(self):
+        return f"{type(self).__name__}.{self._testMethodName}"
+
+    def assertAnswers(self, script, found, wanted):
+        """Compares what a program did with a script: status, answers and errors. A failure names the first line that has another answer."""
+        if found == wanted:
+            return
+        lines = [it for it in text_of(script).splitlines() if it and it[0] != "#"]
+        answers, expected = (text_of(it[1]).splitlines() for it in (found, wanted))
+        named = next((line for line, *both in itertools.zip_longest(lines, answers, expected) if both[0] != both[1]), None)
+        difference = difflib.unified_diff(expected, answers, "expected", "found", lineterm="")
+        shown = "\n".join(itertools.islice(difference, SHOWN_LINES))
+        self.fail(f"answers from the line {named!r} on:\n{shown}\nstatus and errors: {found[::2]}, expected {wanted[::2]}")
+
+
+class each:
+    """Makes of a test method one test for each row, whose values are its arguments. Its name ends with the title, a format of the row, and `-k` finds
+    a test by any part of its name. In a class of tests:
+
+        @tree.each([("one", 1), ("two", 2)])
+        def test_number(self, title, number):
+    """
+
+    def __init__(self, rows, title="{0}"):
+        self.rows, self.title = rows, title
+
+    def __call__(self, method):
+        self.method = method
+        return self
+
+    def __set_name__(self, owner, name):
+        delattr(owner, name)
+        for row in self.rows:
+            self.add(owner, f"{name} {self.title.format(*row)}", row)
+
+    def add(self, owner, name, row):
+        if hasattr(owner, name):
+            raise ValueError(f"{owner.__name__} has two tests with the name {name!r}")
+        setattr(owner, name, lambda test: self.method(test, *row))
+
+
+class Result(unittest.TextTestResult):
+    """Counts also what passed. A test with subtests counts once."""
+
+    passed = 0
+
+    def addSuccess(self, test):
+        super().addSuccess(test)
+        self.passed += 1
+
+
+class Runner(unittest.TextTestRunner):
+    resultclass = Result
+
+
+def main(name, words=None):
+    """Runs the tests of the script that calls this, by its arguments or other words. They are those of unittest: `-k PART` runs the tests whose names
+    have this part, `-v` prints each name, `-f` ends at the first failure.
+
+    Failures are on standard error. Standard output has a line for each reason to skip tests, and the last line `NAME: N passed, M failed`, with
+    `, K skipped` if tests were. The status is 1 if a test failed, or if none was found."""
+    ends_quietly(lambda: sys.exit(run_tests(name, sys.argv[1:] if words is None else words)))
+
+
+def run_tests(name, words):
+    if {"-h", "--help"}.intersection(words):
+        print(sys.modules["__main__"].__doc__, end="\n\n")
+    result = unittest.main(argv=[sys.argv[0], *words], verbosity=0, exit=False, testRunner=Runner).result
+    failed = len(result.failures) + len(result.errors) + len(result.unexpectedSuccesses)
+    skipped = collections.Counter(reason for _, reason in result.skipped)
+    for reason, count in skipped.items():
+        print(f"{name}: {count} skipped: {reason}")
+    print(f"{name}: {result.passed} passed, {failed} failed" + (f", {sum(skipped.values())} skipped" if skipped else ""))
+    return int(failed > 0 or not (result.passed or skipped))
+
+
+def text_of(data):
+    return data.decode(errors="backslashreplace") if isinstance(data, bytes) else data
+
+
+def built_program(crate):
+    """The path of the proved program of a crate."""
+    return ROOT / "crates" / crate / "out" / crate
+
+
+@contextlib.contextmanager
+def unread():
+    """A pipe whose reader is gone, for the output of a program."""
+    reader, writer = os.pipe()
+    os.close(reader)
+    try:
+        yield writer
+    finally:
+        os.close(writer)
+
+
+def other_program(usual):
+    """The program to test, which `--program PATH` names in place of the usual one, and the other arguments, for `main`."""
+    parser = argparse.ArgumentParser(add_help=False)
+    parser.add_argument("--program", type=lambda it: pathlib.Path(it).resolve(), default=usual)
+    given, words = parser.parse_known_args()
+    return given.program, words
 
 
 def ran(words, given=None, **how):
