@@ -2,18 +2,16 @@
 """Tests recovery-sender as a process. It answers rows of calls and recordings of real connections with what the files of tests/sender
 have, one line at a time. It reports lines and arguments that it cannot read, and streams that fail.
 
-An argument is another program to try in place of the proved one."""
+`--program PATH` tests another program in place of the proved one."""
 import os
-import pathlib
 import select
 import subprocess
-import sys
 
 import program as rows
 import tree
 from tree import ROOT
 
-PROGRAM = ROOT / "crates" / "recovery_sender_program" / "out" / "recovery_sender_program"
+PROGRAM = tree.built_program("recovery_sender_program")
 FILES = ROOT / "tests" / "sender"
 GOOD, ANSWER = "confirmed", "done timer none"
 USAGE = "usage: recovery-sender client|server|established [SEED [cubic|WINDOW [PACKETS NUMERATOR DENOMINATOR PERIODS]]]\n"
@@ -42,83 +40,95 @@ ARGUMENTS = [
     (["server", "1", "2", "3", "9", "8", "3", "-"], 2, "", USAGE),
 ]
 
-tests = tree.Tests("sender")
-expect = tests.expect
+RECORDINGS = [("client", "handshakes-client"), ("server", "losses-server")]
 
 
 def ran(words, given):
     return tree.ran([PROGRAM, *words], given, text=True)
 
 
-def every_row():
-    for place, words, lines, answers in rows.scripts(FILES / "rows.txt"):
-        given, wanted = "\n".join(lines), "".join(f"{answer}\n" for answer in answers)
-        tests.answers(f"rows.txt, line {place}", given, ran(words, given), (0, wanted, ""))
-
-
-def lines():
-    """The lines before one that cannot be read are answered."""
+def bad_lines():
+    """The rows of tests/sender/lines.txt: the place of a line that cannot be read, the line, and the error."""
     for place, row in enumerate((FILES / "lines.txt").read_text().splitlines(), 1):
-        bad, gives, told = row.rpartition(" => ")
+        bad, gives, error = row.rpartition(" => ")
         if gives:
-            expect(f"lines.txt, line {place}", ran(["server"], f"{GOOD}\n{bad}\n{GOOD}\n"), (2, f"{ANSWER}\n", f"line 2: {told}\n"))
-    silent = f"# what follows is empty\n\n{GOOD}\n#{GOOD}\n\n"
-    expect("empty lines and comments", ran(["server"], silent), (0, f"{ANSWER}\n", ""))
-    expect("they count as lines", ran(["server"], f"{silent}x\n"), (2, f"{ANSWER}\n", 'line 6: cannot read word 1, "x"\n'))
-    expect("no UTF-8", tree.ran([PROGRAM, "server"], b"keys \xff\n"), (2, b"", b'line 1: cannot read word 2, "\\xff"\n'))
-    expect("no input", ran(["server"], ""), (0, "", ""))
+            yield f"lines.txt:{place}", bad, error
 
 
-def recordings():
-    for side, name in ("client", "handshakes-client"), ("server", "losses-server"):
+class Scripts(tree.TestCase):
+    @tree.each((f"rows.txt:{place}", *row) for place, *row in rows.scripts(FILES / "rows.txt"))
+    def test_row(self, _, words, lines, answers):
+        script, wanted = "\n".join(lines), "".join(f"{answer}\n" for answer in answers)
+        self.assertAnswers(script, ran(words, script), (0, wanted, ""))
+
+    @tree.each(RECORDINGS, "{1}")
+    def test_recording(self, side, name):
         script = (FILES / f"{name}.txt").read_text()
-        tests.answers(name, script, ran([side], script), (0, (FILES / f"{name}.out").read_text(), ""))
+        self.assertAnswers(script, ran([side], script), (0, (FILES / f"{name}.out").read_text(), ""))
+
+    def test_lockstep(self):
+        """The answer to a line is in the pipe, flushed, before the next one is sent."""
+        answers, script = b"", (FILES / "handshakes-client.txt").read_bytes()
+        with subprocess.Popen([PROGRAM, "client"], stdin=subprocess.PIPE, stdout=subprocess.PIPE, bufsize=0) as run:
+            for line in script.splitlines(keepends=True):
+                run.stdin.write(line)
+                if not select.select([run.stdout], [], [], 20)[0]:
+                    break
+                answers += run.stdout.read(4096)
+            run.stdin.close()
+            status = run.wait()
+        self.assertAnswers(script, (status, answers), (0, (FILES / "handshakes-client.out").read_bytes()))
 
 
-def lockstep():
-    """The answer to a line is in the pipe, flushed, before the next one is sent."""
-    answers = b""
-    with subprocess.Popen([PROGRAM, "client"], stdin=subprocess.PIPE, stdout=subprocess.PIPE, bufsize=0) as run:
-        for line in (FILES / "handshakes-client.txt").read_bytes().splitlines(keepends=True):
-            run.stdin.write(line)
-            if not select.select([run.stdout], [], [], 20)[0]:
-                break
-            answers += run.stdout.read(4096)
-        run.stdin.close()
-        expect("lockstep", (run.wait(), answers), (0, (FILES / "handshakes-client.out").read_bytes()))
+class Lines(tree.TestCase):
+    SKIPPED = f"# what follows is empty\n\n{GOOD}\n#{GOOD}\n\n"
+
+    @tree.each(bad_lines())
+    def test_bad(self, _, bad, error):
+        """The lines before one that cannot be read are answered."""
+        self.assertEqual(ran(["server"], f"{GOOD}\n{bad}\n{GOOD}\n"), (2, f"{ANSWER}\n", f"line 2: {error}\n"))
+
+    def test_empty_lines_and_comments(self):
+        self.assertEqual(ran(["server"], self.SKIPPED), (0, f"{ANSWER}\n", ""))
+
+    def test_empty_lines_and_comments_count_as_lines(self):
+        found = ran(["server"], f"{self.SKIPPED}x\n")
+        self.assertEqual(found, (2, f"{ANSWER}\n", 'line 6: cannot read word 1, "x"\n'))
+
+    def test_no_utf_8(self):
+        found = tree.ran([PROGRAM, "server"], b"keys \xff\n")
+        self.assertEqual(found, (2, b"", b'line 1: cannot read word 2, "\\xff"\n'))
+
+    def test_no_input(self):
+        self.assertEqual(ran(["server"], ""), (0, "", ""))
 
 
-def arguments():
-    for words, *wanted in ARGUMENTS:
-        expect(f"arguments {words}", ran(words, f"{GOOD}\n"), tuple(wanted))
-    page = (ROOT / "crates" / "recovery_sender_program" / "help.txt").read_text()
-    expect("help", ran(["--help"], ""), (0, page, ""))
+class Arguments(tree.TestCase):
+    @tree.each(ARGUMENTS)
+    def test_words(self, words, *wanted):
+        self.assertEqual(ran(words, f"{GOOD}\n"), tuple(wanted))
+
+    def test_help(self):
+        page = (ROOT / "crates" / "recovery_sender_program" / "help.txt").read_text()
+        self.assertEqual(ran(["--help"], ""), (0, page, ""))
 
 
-def streams():
-    with open("/dev/full", "wb") as full:
-        for words in ["server"], ["--help"], ["--version"]:
-            run = subprocess.run([PROGRAM, *words], input=GOOD.encode(), stdout=full, stderr=subprocess.PIPE)
-            expect(f"a failed write, {words}", (run.returncode, run.stderr), (1, b"sender: write failed\n"))
-    folder = os.open(ROOT, os.O_RDONLY)
-    run = subprocess.run([PROGRAM, "server"], stdin=folder, capture_output=True)
-    os.close(folder)
-    expect("a failed read", (run.returncode, run.stdout, run.stderr), (1, b"", b"sender: read failed\n"))
-    left, right = os.pipe()
-    os.close(left)
-    run = subprocess.run([PROGRAM, "server"], input=GOOD.encode(), stdout=right, stderr=subprocess.PIPE)
-    os.close(right)
-    expect("nobody reads", (run.returncode, run.stderr), (0, b""))
+class Streams(tree.TestCase):
+    @tree.each((it,) for it in (["server"], ["--help"], ["--version"]))
+    def test_failed_write(self, words):
+        with open("/dev/full", "wb") as full:
+            self.assertEqual(tree.ran([PROGRAM, *words], GOOD.encode(), stdout=full), (1, None, b"sender: write failed\n"))
 
+    def test_failed_read(self):
+        folder = os.open(ROOT, os.O_RDONLY)
+        self.addCleanup(os.close, folder)
+        self.assertEqual(tree.ran([PROGRAM, "server"], stdin=folder), (1, b"", b"sender: read failed\n"))
 
-def main():
-    global PROGRAM
-    if sys.argv[1:]:
-        PROGRAM = pathlib.Path(sys.argv[1]).resolve()
-    for check in every_row, lines, recordings, lockstep, arguments, streams:
-        check()
-    tests.end()
+    def test_nobody_reads(self):
+        with tree.unread() as pipe:
+            self.assertEqual(tree.ran([PROGRAM, "server"], GOOD.encode(), stdout=pipe), (0, None, b""))
 
 
 if __name__ == "__main__":
-    main()
+    PROGRAM, words = tree.other_program(PROGRAM)
+    tree.main("sender", words)

@@ -2,22 +2,22 @@
 """Tests recovery-trace as a process. It answers each script of the repository with the output in the file next to it, one line at a
 time, in memory that does not grow with the input. It reports lines and arguments that it cannot read. The example of its page is true.
 
-An argument is another program to try in place of the proved one."""
+`--program PATH` tests another program in place of the proved one."""
 import json
 import os
 import pathlib
 import re
 import select
 import subprocess
-import sys
 import threading
 
 import program as rows
 import tree
 from tree import ROOT
 
-PROGRAM = ROOT / "crates" / "recovery_trace" / "out" / "recovery_trace"
-REPLAY = ROOT / "crates" / "recovery_program" / "out" / "recovery_program"
+PROGRAM = tree.built_program("recovery_trace")
+REPLAY = tree.built_program("recovery_program")
+EXAMPLES = [(it.name, it.read_text(), it.with_suffix(".out").read_text()) for it in sorted((ROOT / "examples").glob("*.txt"))]
 METRICS = {"time", "bytes_in_flight", "packets_in_flight", "congestion_window", "smoothed_rtt", "rtt_variance", "min_rtt", "latest_rtt", "mtu", "pacer_tokens"}
 GOOD, ANSWER = "next-timeout", "timeout none"
 USAGE = "usage: recovery-trace [--state|--qlog] [--strict] [--controller NAME] [SEED [WINDOW]]\n"
@@ -102,146 +102,167 @@ ARGUMENTS = [
     (["1", "2", "3"], 2, "", USAGE),
 ]
 
-tests = tree.Tests("trace")
-expect = tests.expect
-
 
 def ran(words, given, program=None):
     return tree.ran([program or PROGRAM, *words], given, text=True)
 
 
-def scripts():
-    for script in sorted((ROOT / "examples").glob("*.txt")):
-        given = script.read_text()
-        tests.answers(script.name, given, ran([], given), (0, script.with_suffix(".out").read_text(), ""))
-        if REPLAY.exists():
-            for words in ["7"], ["-", "24000"]:
-                tests.answers(f"{script.name} with {words}", given, ran(words, given), ran(words, given, REPLAY))
-
-
-def every_row():
+def rows_with_answers():
     """The scripts of tests/rows, with the arguments that they name: those of recovery-replay are those of recovery-trace."""
     for path in sorted(rows.ROWS.glob("*.txt")):
         for place, words, lines, answers in rows.scripts(path):
             if answers is not None:
-                given, wanted = "\n".join(lines), "".join(f"{answer}\n" for answer in answers)
-                tests.answers(f"{path.name}, line {place}", given, ran(words, given), (0, wanted, ""))
+                yield f"{path.name}:{place}", words, "\n".join(lines), "".join(f"{answer}\n" for answer in answers)
 
 
-def recording():
-    """The beginning of a recording of a real connection, as the picture of it has it."""
-    script = (ROOT / "tests" / "pictures" / "connection.txt").read_text()
-    if REPLAY.exists():
-        tests.answers("a recording", script, ran([], script), ran([], script, REPLAY))
+class Scripts(tree.TestCase):
+    def same_as_replay(self, words, script):
+        if not REPLAY.is_file():
+            self.skipTest("recovery_program is not built: ./prove")
+        self.assertAnswers(script, ran(words, script), ran(words, script, REPLAY))
+
+    @tree.each(EXAMPLES)
+    def test_example(self, _, script, answers):
+        self.assertAnswers(script, ran([], script), (0, answers, ""))
+
+    @tree.each(((name, words, script) for name, script, _ in EXAMPLES for words in (["7"], ["-", "24000"])), "{0} {1}")
+    def test_example_as_recovery_replay(self, _, words, script):
+        self.same_as_replay(words, script)
+
+    def test_recording_as_recovery_replay(self):
+        """The beginning of a recording of a real connection, as the picture of it has it."""
+        self.same_as_replay([], (ROOT / "tests" / "pictures" / "connection.txt").read_text())
+
+    @tree.each(rows_with_answers())
+    def test_row(self, _, words, script, answers):
+        self.assertAnswers(script, ran(words, script), (0, answers, ""))
+
+    def test_lockstep(self):
+        """The answer to a line is in the pipe, flushed, before the next one is sent."""
+        script = ROOT / "examples" / "paths.txt"
+        answers = b""
+        with subprocess.Popen([PROGRAM], stdin=subprocess.PIPE, stdout=subprocess.PIPE, bufsize=0) as run:
+            for line in script.read_bytes().splitlines(keepends=True):
+                run.stdin.write(line)
+                if not select.select([run.stdout], [], [], 20)[0]:
+                    break
+                answers += run.stdout.read(4096)
+            run.stdin.close()
+            status = run.wait()
+        self.assertAnswers(script.read_text(), (status, answers), (0, script.with_suffix(".out").read_bytes()))
 
 
-def lockstep():
-    """The answer to a line is in the pipe, flushed, before the next one is sent."""
-    script = ROOT / "examples" / "paths.txt"
-    answers = b""
-    with subprocess.Popen([PROGRAM], stdin=subprocess.PIPE, stdout=subprocess.PIPE, bufsize=0) as run:
-        for line in script.read_bytes().splitlines(keepends=True):
-            run.stdin.write(line)
-            if not select.select([run.stdout], [], [], 20)[0]:
-                break
-            answers += run.stdout.read(4096)
-        run.stdin.close()
-        expect("lockstep", (run.wait(), answers), (0, script.with_suffix(".out").read_bytes()))
+class Lines(tree.TestCase):
+    def test_empty_lines_and_comments(self):
+        self.assertEqual(ran([], f"# a\n\n{GOOD}\n#{GOOD}\n{GOOD}"), (0, f"{ANSWER}\n{ANSWER}\n", ""))
+
+    def test_no_input(self):
+        self.assertEqual(ran([], ""), (0, "", ""))
+
+    @tree.each(enumerate(BAD), "{0} {1[0]!r:.40}")
+    def test_bad(self, _, row):
+        bad, error = row
+        self.assertEqual(ran([], f"{GOOD}\n\n{bad}\n{GOOD}\n"), (2, f"{ANSWER}\n{ANSWER}\n", f"line 3: {error}\n"))
+
+    @tree.each(BYTES, "{0!r:.40}")
+    def test_no_utf_8(self, bad, error):
+        found = tree.ran([PROGRAM], bad + b"\n" + GOOD.encode())
+        self.assertEqual(found, (2, f"{ANSWER}\n".encode(), f"line 1: {error}\n".encode()))
+
+    def test_bad_of_strict(self):
+        found = ran(["--strict"], f"{GOOD}\n{BAD[0][0]}\n{GOOD}\n")
+        self.assertEqual(found, (2, f"{ANSWER}\n", f"line 2: {BAD[0][1]}\n"))
+
+    def test_bad_at_the_end(self):
+        found = ran([], "lost data 0\nlost data")
+        self.assertEqual(found, (2, "refused 4 NotTracked\n", "line 2: words are missing behind the last one\n"))
+
+    def test_beginning(self):
+        script, answers = ("".join(f"{pair[at]}\n" for pair in BEGINNING) for at in (0, 1))
+        self.assertAnswers(script, ran([], script), (0, answers, ""))
 
 
-def lines():
-    expect("passed over", ran([], f"# a\n\n{GOOD}\n#{GOOD}\n{GOOD}"), (0, f"{ANSWER}\n{ANSWER}\n", ""))
-    expect("no input", ran([], ""), (0, "", ""))
-    for bad, told in BAD:
-        expect(f"{bad[:40]!r}", ran([], f"{GOOD}\n\n{bad}\n{GOOD}\n"), (2, f"{ANSWER}\n{ANSWER}\n", f"line 3: {told}\n"))
-    for bad, told in BYTES:
-        run = subprocess.run([PROGRAM], input=bad + b"\n" + GOOD.encode(), capture_output=True)
-        found = run.returncode, run.stdout, run.stderr
-        expect(f"{bad[:40]!r}", found, (2, f"{ANSWER}\n".encode(), f"line 1: {told}\n".encode()))
-    script, wanted = ("".join(f"{pair[at]}\n" for pair in BEGINNING) for at in (0, 1))
-    expect("the beginning", ran([], script), (0, wanted, ""))
-    strict = ran(["--strict"], f"{GOOD}\n{BAD[0][0]}\n{GOOD}\n")
-    expect("strict", strict, (2, f"{ANSWER}\n", f"line 2: {BAD[0][1]}\n"))
-    expect("the last line", ran([], "lost data 0\nlost data"), (2, "refused 4 NotTracked\n", f"line 2: {BAD[-3][1]}\n"))
+class Arguments(tree.TestCase):
+    @tree.each(ARGUMENTS)
+    def test_words(self, words, *wanted):
+        self.assertEqual(ran(words, GOOD + "\n"), tuple(wanted))
+
+    def test_help(self):
+        status, text, errors = ran(["--help"], "")
+        self.assertEqual((status, text.startswith(USAGE), errors), (0, True, ""))
 
 
-def arguments():
-    for words, *wanted in ARGUMENTS:
-        expect(f"arguments {words}", ran(words, GOOD + "\n"), tuple(wanted))
-    status, text, errors = ran(["--help"], "")
-    expect("help", (status, text.startswith(USAGE), errors), (0, True, ""))
-    with open("/dev/full", "wb") as full:
-        for words in [], ["--qlog"], ["--help"], ["--version"]:
-            run = subprocess.run([PROGRAM, *words], input=GOOD.encode(), stdout=full, stderr=subprocess.PIPE)
-            expect(f"a failed write, {words}", (run.returncode, run.stderr), (1, b"recovery-trace: write failed\n"))
-    folder = os.open(ROOT, os.O_RDONLY)
-    run = subprocess.run([PROGRAM], stdin=folder, capture_output=True)
-    expect("a failed read", (run.returncode, run.stdout, run.stderr), (1, b"", b"recovery-trace: read failed\n"))
+class Streams(tree.TestCase):
+    @tree.each((it,) for it in ([], ["--qlog"], ["--help"], ["--version"]))
+    def test_failed_write(self, words):
+        with open("/dev/full", "wb") as full:
+            self.assertEqual(tree.ran([PROGRAM, *words], GOOD.encode(), stdout=full), (1, None, b"recovery-trace: write failed\n"))
+
+    def test_failed_read(self):
+        folder = os.open(ROOT, os.O_RDONLY)
+        self.addCleanup(os.close, folder)
+        self.assertEqual(tree.ran([PROGRAM], stdin=folder), (1, b"", b"recovery-trace: read failed\n"))
+
+    def test_reader_goes(self):
+        """Whoever reads the answers takes the first one and goes: no failure."""
+        with subprocess.Popen([PROGRAM], stdin=subprocess.PIPE, stdout=subprocess.PIPE, stderr=subprocess.PIPE, bufsize=0) as run:
+            run.stdin.write(f"{GOOD}\n".encode())
+            self.assertEqual(run.stdout.readline(), f"{ANSWER}\n".encode())
+            run.stdout.close()
+            run.stdin.write(f"{GOOD}\n".encode() * 2)
+            self.assertEqual((run.wait(), run.stderr.read()), (0, b""))
+
+    @tree.each((it,) for it in ([], ["--state"], ["--qlog"], ["--help"], ["--version"]))
+    def test_nobody_reads(self, words):
+        with tree.unread() as pipe:
+            self.assertEqual(tree.ran([PROGRAM, *words], GOOD.encode(), stdout=pipe), (0, None, b""))
 
 
-def closed_pipe():
-    """Whoever reads the answers takes the first one and goes: no failure."""
-    with subprocess.Popen([PROGRAM], stdin=subprocess.PIPE, stdout=subprocess.PIPE, stderr=subprocess.PIPE, bufsize=0) as run:
-        run.stdin.write(f"{GOOD}\n".encode())
-        expect("the first answer", run.stdout.readline(), f"{ANSWER}\n".encode())
-        run.stdout.close()
-        run.stdin.write(f"{GOOD}\n".encode() * 2)
-        expect("a closed pipe", (run.wait(), run.stderr.read()), (0, b""))
-    for words in [], ["--state"], ["--qlog"], ["--help"], ["--version"]:
-        left, right = os.pipe()
-        os.close(left)
-        run = subprocess.run([PROGRAM, *words], input=GOOD.encode(), stdout=right, stderr=subprocess.PIPE)
-        os.close(right)
-        expect(f"nobody reads, {words}", (run.returncode, run.stderr), (0, b""))
+class States(tree.TestCase):
+    """With --state, every second line is an object with the names of the page."""
+
+    @tree.each(EXAMPLES)
+    def test_answers(self, _, script, answers):
+        self.assertEqual(ran(["--state"], script)[1].splitlines()[::2], answers.splitlines())
+
+    @tree.each(EXAMPLES)
+    def test_names(self, _, script, answers):
+        states = ran(["--state"], script)[1].splitlines()[1::2]
+        self.assertEqual([set(json.loads(it)) - {"ssthresh"} for it in states], [METRICS] * len(answers.splitlines()))
+
+    def test_times(self):
+        states = ran(["--state"], "".join(f"{line}\n" for line, _ in TIMES))[1].splitlines()[1::2]
+        self.assertEqual([it.split(",")[0] for it in states], [f'{{"time":{time}e-6' for _, time in TIMES])
+
+    def test_example_of_the_page(self):
+        text = (ROOT / "docs" / "PROGRAMS.md").read_text()
+        given, wanted = re.search(r"An example, `(.*?)` and what `recovery-trace --state` writes to it:\n\n```answers\n(.*?)```", text, re.S).groups()
+        self.assertEqual(ran(["--state"], given + "\n"), (0, wanted, ""))
 
 
-def states():
-    """Every second line is an object with the names of the page."""
-    for script in sorted((ROOT / "examples").glob("*.txt")):
-        answers = script.with_suffix(".out").read_text().splitlines()
-        text = ran(["--state"], script.read_text())[1].splitlines()
-        expect(f"{script.name}: answers", text[::2], answers)
-        names = [set(json.loads(line)) - {"ssthresh"} for line in text[1::2]]
-        expect(f"{script.name}: states", names, [METRICS] * len(answers))
-    text = ran(["--state"], "".join(f"{line}\n" for line, _ in TIMES))[1].splitlines()[1::2]
-    expect("times", [it.split(",")[0] for it in text], [f'{{"time":{time}e-6' for _, time in TIMES])
+class Memory(tree.TestCase):
+    def peak(self, count):
+        """The peak memory in KiB over that number of lines, read once all are answered."""
+        lines = [f"received data {number // 2} {number // 2} 0\nacks-sent data\n" for number in range(0, count, 2)]
+        with subprocess.Popen([PROGRAM], stdin=subprocess.PIPE, stdout=subprocess.PIPE, text=True) as run:
+            feeder = threading.Thread(target=lambda: (run.stdin.writelines(lines), run.stdin.flush()))
+            feeder.start()
+            answered = sum(1 for _ in zip(range(count), run.stdout))
+            held = int(re.search(r"VmHWM:\s*(\d+)", pathlib.Path(f"/proc/{run.pid}/status").read_text())[1])
+            feeder.join()
+            run.stdin.close()
+            self.assertEqual((answered, run.wait()), (count, 0))
+        return held
 
+    def test_many_lines(self):
+        few, many = self.peak(1000), self.peak(500_000)
+        self.assertLess(many, few + 1024, "KiB over 500,000 lines, and over 1,000 lines with 1,024 more")
 
-def page():
-    text = (ROOT / "docs" / "PROGRAMS.md").read_text()
-    given, wanted = re.search(r"An example, `(.*?)` and what `recovery-trace --state` writes to it:\n\n```answers\n(.*?)```", text, re.S).groups()
-    expect("the example of docs/PROGRAMS.md", ran(["--state"], given + "\n"), (0, wanted, ""))
-
-
-def peak(count):
-    """The peak memory in KiB over that number of lines, read once all are answered."""
-    lines = [f"received data {number // 2} {number // 2} 0\nacks-sent data\n" for number in range(0, count, 2)]
-    with subprocess.Popen([PROGRAM], stdin=subprocess.PIPE, stdout=subprocess.PIPE, text=True) as run:
-        feeder = threading.Thread(target=lambda: (run.stdin.writelines(lines), run.stdin.flush()))
-        feeder.start()
-        answered = sum(1 for _ in zip(range(count), run.stdout))
-        held = int(re.search(r"VmHWM:\s*(\d+)", pathlib.Path(f"/proc/{run.pid}/status").read_text())[1])
-        feeder.join()
-        run.stdin.close()
-        expect(f"{count} lines", (answered, run.wait()), (count, 0))
-    return held
-
-
-def memory():
-    few, many = peak(1000), peak(500_000)
-    expect(f"memory: {few} KiB over 1,000 lines, {many} over 500,000", many < few + 1024, True)
-    long = ran([], "x" * 50_000_000 + "\n" + GOOD)
-    expect("a line of 50 MB", long, (2, ANSWER + "\n", "line 1: longer than 4096 bytes\n"))
-
-
-def main():
-    global PROGRAM
-    if len(sys.argv) > 1:
-        PROGRAM = pathlib.Path(sys.argv[1]).resolve()
-    for part in scripts, every_row, recording, lockstep, lines, arguments, closed_pipe, states, page, memory:
-        part()
-    tests.end()
+    def test_long_line(self):
+        long = ran([], "x" * 50_000_000 + "\n" + GOOD)
+        self.assertEqual(long, (2, ANSWER + "\n", "line 1: longer than 4096 bytes\n"))
 
 
 if __name__ == "__main__":
-    main()
+    PROGRAM, words = tree.other_program(PROGRAM)
+    tree.main("trace", words)
