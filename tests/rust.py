@@ -38,6 +38,9 @@ EVENT = ROOT / "crates" / EVENTS
 TIMERS = "recovery_base/src/timer.rt"
 CORRUPTED = "ECN corruption"  # the text of the last fault, by which the library does not ask
 
+# an export with its documentation, its name, its parameters, its result and its contract
+EXPORT = re.compile(r"((?:///[^\n]*\n)*)#\[unsafe\(no_mangle\)\]\npub extern \"C\" fn (\w+)\((.*?)\)(?: -> (\w+))?\n(.*?)\n\{", re.S)
+
 # what stands for a type of the library in Rust
 IN_RUST = {
     "Q": "&'a [u64]",
@@ -160,6 +163,25 @@ IN_C = {"flag": "bool", "other": "bool", "size": "uint16_t", "first": "uint64_t"
 
 # what each group of numbers says
 PROGRAMS_IN_C = "transfer.c", "handshake.c", "sender.c", "tunnel.c", "main.c"  # whose calls the header shows, the first that has one
+# the toolchain's functions for memory, which call malloc, realloc and free of the C library
+ALLOCATOR = """
+// What the allocator returns: whether there is memory, and where. If there is none, `p` is any pointer that is not null.
+struct rattle_tried {
+    bool ok;
+    void *p;
+};
+
+// The allocator, which a program may define itself (rust/c/static_memory.h): all three functions, which the linker then
+// does not take from the archive. The shared library keeps its own. They may run in each thread that calls the library.
+//
+// Allocates `size` bytes, aligned to `align`, a power of two up to 16.
+struct rattle_tried rattle_alloc(size_t size, size_t align);
+
+// Resizes a block to `size` bytes, of which the first `kept` stay, and may move it. On failure it is unchanged.
+struct rattle_tried rattle_realloc(void *old, size_t kept, size_t size, size_t align);
+
+// Frees a block.
+void rattle_dealloc(void *old);"""
 GROUPS = {
     "ANSWER": "The answers: `kind` of a reply.",
     "REFUSAL": "The errors: `refusal` of a reply.",
@@ -244,9 +266,8 @@ def all_structs():
 
 def exports():
     """The exported functions, each with its parameters and its result, and their documentation."""
-    form = re.compile(r"((?:///[^\n]*\n)*)#\[unsafe\(no_mangle\)\]\npub extern \"C\" fn (\w+)\((.*?)\)(?: -> (\w+))?\n(.*?)\n\{", re.S)
     for path in sorted((CRATE / "src").glob("*.rt"), key=lambda it: (it.name != "lib.rt", it.name)):
-        for docs, name, given, result, _ in form.findall(path.read_text()):
+        for docs, name, given, result, _ in EXPORT.findall(path.read_text()):
             parameters = [it.strip().split(": ", 1) for it in given.replace("\n", " ").split(",") if it.strip()]
             yield documented(docs), name, [it for it in parameters if it[1] != "Global"], result
 
@@ -440,6 +461,7 @@ def declared_in_c():
         yield f"{result} {name}({given or 'void'});"
     yield from texts_in_c()
     yield from readers_in_c()
+    yield from ALLOCATOR.split("\n")
     yield ""
     yield "// Does nothing. A library of another layout does not have it, so a program with this header does not link with it."
     yield f'void recovery_ffi_layout(void) __asm__("recovery_ffi_layout_{checksum()}");'
@@ -790,6 +812,22 @@ def ranges():
         expect(f"the numbers of {group}_ that senders have lie apart", apart, f"{of_events} of events, {numbers}")
 
 
+def readers():
+    """The exports that guarantee to change nothing: `ReadsHandle` of their contracts."""
+    return {it.group(2) for path in (CRATE / "src").glob("*.rt") for it in EXPORT.finditer(path.read_text()) if "ReadsHandle" in it.group(5)}
+
+
+def shared():
+    """What `&self` permits in Rust are readers, which rust/c/readers.c calls with all memory write-protected: so the types are `Sync`."""
+    called = set(re.findall(r"READ\((recovery_ffi_\w+)\(", (ROOT / "rust" / "c" / "readers.c").read_text()))
+    expect("rust/c/readers.c calls each reader", called == readers(), ", ".join(sorted(called ^ readers())))
+    methods = re.compile(r"^    (?:pub(?:\(crate\))? )?fn (\w+)[^;{]*?\(\s*(&self|&mut self)?.*?^    \}", re.M | re.S)
+    for name in "recovery.rs", "sender.rs", "mtud.rs":
+        found = [it for it in methods.finditer((RUST / "src" / name).read_text()) if it.group(2) == "&self"]
+        changes = {call for it in found for call in re.findall(r"ffi::(recovery_ffi_\w+)\(", it.group()) if call not in readers()}
+        expect(f"what `&self` of {name} permits only reads", bool(found) and not changes, ", ".join(sorted(changes)))
+
+
 def version():
     """The logic of the toolchain is the one that LOGIC names, and the documents name no other."""
     logic = LOGIC.read_text().strip()
@@ -808,7 +846,7 @@ def in_c(folder, source, program):
 
 def programs_in_c(folder, made):
     """The programs in C and C++: each prints what the file next to it has."""
-    for source in "main.c", "misuse.c", "handshake.c", "sender.c", "transfer.c", "tunnel.c", "main.cpp":
+    for source in (*PROGRAMS_IN_C, "misuse.c", "static_memory.c", "readers.c", "main.cpp"):
         program = made / source.replace(".", "_")
         if ran(f"{source} is compiled", in_c(folder, source, program)) is not None:
             found = ran(f"{source} ends well", [program])
@@ -839,6 +877,7 @@ def main():
     for which, path in DECLARED.items():
         expect(f"{path.relative_to(ROOT)} is what the library declares", path.read_text() == written[which], "tests/rust.py --write writes it")
     ranges()
+    shared()
     version()
     layout()
     without_library()

@@ -1364,6 +1364,24 @@ static inline uint64_t recovery_needs_room_lost(struct recovery_encoded_reply re
 // The fault, if the error is `RECOVERY_REFUSAL_ECN`.
 static inline uint64_t recovery_refused_fault(struct recovery_encoded_reply reply) { return reply.first; }
 
+// What the allocator returns: whether there is memory, and where. If there is none, `p` is any pointer that is not null.
+struct rattle_tried {
+    bool ok;
+    void *p;
+};
+
+// The allocator, which a program may define itself (rust/c/static_memory.h): all three functions, which the linker then
+// does not take from the archive. The shared library keeps its own. They may run in each thread that calls the library.
+//
+// Allocates `size` bytes, aligned to `align`, a power of two up to 16.
+struct rattle_tried rattle_alloc(size_t size, size_t align);
+
+// Resizes a block to `size` bytes, of which the first `kept` stay, and may move it. On failure it is unchanged.
+struct rattle_tried rattle_realloc(void *old, size_t kept, size_t size, size_t align);
+
+// Frees a block.
+void rattle_dealloc(void *old);
+
 // Does nothing. A library of another layout does not have it, so a program with this header does not link with it.
 void recovery_ffi_layout(void) __asm__("recovery_ffi_layout_1f8f7fce");
 __attribute__((used)) static void (*const recovery_ffi_has_this_layout)(void) = recovery_ffi_layout;

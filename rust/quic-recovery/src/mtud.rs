@@ -2,7 +2,6 @@
 use crate::config::{ConfigError, RecoveryConfig, TransportConfig};
 use crate::ffi;
 use crate::types::Instant;
-use std::cell::UnsafeCell;
 use std::error::Error;
 use std::fmt;
 use std::ptr::null_mut;
@@ -43,17 +42,20 @@ impl Error for InvalidArgument {}
 /// # Ok::<(), Box<dyn std::error::Error>>(())
 /// ```
 pub struct MtuDiscovery {
-    /// It holds a discovery from `new` to `drop`, and its bytes are moved while it is read.
-    handle: UnsafeCell<ffi::MtuHandle>,
+    /// It holds a discovery from `new` to `drop`. The reader gets a copy of it.
+    handle: ffi::MtuHandle,
 }
 
 // SAFETY: the handle owns one block of memory, as that of a `Recovery` does.
 unsafe impl Send for MtuDiscovery {}
 
+// SAFETY: what `&self` permits is one reader of the library, which only reads, as those of a `Recovery` do.
+unsafe impl Sync for MtuDiscovery {}
+
 impl Drop for MtuDiscovery {
     fn drop(&mut self) {
         // SAFETY: the handle holds a discovery, and is not used again.
-        unsafe { ffi::recovery_ffi_mtu_drop(self.handle.get()) }
+        unsafe { ffi::recovery_ffi_mtu_drop(&mut self.handle) }
     }
 }
 
@@ -91,15 +93,17 @@ impl MtuDiscovery {
         };
         match ConfigError::from_number(code) {
             Some(error) => Err(error),
-            None => Ok(MtuDiscovery {
-                handle: UnsafeCell::new(handle),
-            }),
+            None => Ok(MtuDiscovery { handle }),
         }
     }
 
     fn view(&self) -> ffi::MtuView {
-        // SAFETY: the handle holds a discovery, and no call is made within another.
-        unsafe { ffi::recovery_ffi_mtu(self.handle.get()) }
+        let mut copy = ffi::MtuHandle {
+            ptr: self.handle.ptr,
+            holds: self.handle.holds,
+        };
+        // SAFETY: the handle holds a discovery, and the call only reads.
+        unsafe { ffi::recovery_ffi_mtu(&mut copy) }
     }
 
     /// Returns the MTU in use.
@@ -121,7 +125,7 @@ impl MtuDiscovery {
     /// Returns the size of the probe to send now as the packet of this number, if one is due: never while a probe is in
     /// flight, or before the next search.
     pub fn poll_transmit(&mut self, now: Instant, next_packet_number: u64) -> Option<u16> {
-        let handle = self.handle.get_mut();
+        let handle = &mut self.handle;
         // SAFETY: the handle holds a discovery.
         let reply =
             unsafe { ffi::recovery_ffi_mtu_poll(handle, now.as_nanos(), next_packet_number) };
@@ -151,13 +155,13 @@ impl MtuDiscovery {
         size: u16,
     ) -> Result<(), InvalidArgument> {
         // SAFETY: the handle holds a discovery.
-        taken(unsafe { ffi::recovery_ffi_mtu_limit(self.handle.get_mut(), size) })
+        taken(unsafe { ffi::recovery_ffi_mtu_limit(&mut self.handle, size) })
     }
 
     /// Records that a packet of this many bytes was acknowledged. Returns whether it was the probe in flight, whose
     /// size is then the MTU.
     pub fn on_acked(&mut self, packet_number: u64, packet_bytes: u16) -> bool {
-        let handle = self.handle.get_mut();
+        let handle = &mut self.handle;
         // SAFETY: the handle holds a discovery.
         unsafe { ffi::recovery_ffi_mtu_acked(handle, packet_number, packet_bytes) }.flag
     }
@@ -165,13 +169,13 @@ impl MtuDiscovery {
     /// Records that the probe in flight was lost. Changes nothing if there is none.
     pub fn on_probe_lost(&mut self) {
         // SAFETY: the handle holds a discovery.
-        let _done = unsafe { ffi::recovery_ffi_mtu_probe_lost(self.handle.get_mut()) };
+        let _done = unsafe { ffi::recovery_ffi_mtu_probe_lost(&mut self.handle) };
     }
 
     /// Records that a packet other than the probe in flight was lost. Report packets that are lost together in
     /// increasing order, then call `black_hole_detected`.
     pub fn on_non_probe_lost(&mut self, packet_number: u64, packet_bytes: u16) {
-        let handle = self.handle.get_mut();
+        let handle = &mut self.handle;
         // SAFETY: the handle holds a discovery.
         let _done = unsafe { ffi::recovery_ffi_mtu_lost(handle, packet_number, packet_bytes) };
     }
@@ -196,14 +200,14 @@ impl MtuDiscovery {
     /// # Ok::<(), Box<dyn std::error::Error>>(())
     /// ```
     pub fn black_hole_detected(&mut self, now: Instant) -> bool {
-        let handle = self.handle.get_mut();
+        let handle = &mut self.handle;
         // SAFETY: the handle holds a discovery.
         unsafe { ffi::recovery_ffi_mtu_losses_done(handle, now.as_nanos()) }.flag
     }
 
     /// Resets the discovery with these sizes; fails if one is 0. The peer's limit is unchanged.
     pub fn reset(&mut self, current_mtu: u16, min_mtu: u16) -> Result<(), InvalidArgument> {
-        let handle = self.handle.get_mut();
+        let handle = &mut self.handle;
         // SAFETY: the handle holds a discovery.
         taken(unsafe { ffi::recovery_ffi_mtu_reset(handle, current_mtu, min_mtu) })
     }

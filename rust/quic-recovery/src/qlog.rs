@@ -33,6 +33,7 @@ use std::io::{self, Write};
 /// assert!(text.contains(r#""congestion_window":6600"#));
 /// # Ok::<(), Box<dyn std::error::Error>>(())
 /// ```
+#[derive(Debug)]
 pub struct Qlog<W> {
     output: W,
     state: &'static str,

@@ -5,7 +5,6 @@ use crate::ffi;
 use crate::sender::Side;
 use crate::timer::Timer;
 use crate::types::{Instant, PathMarks, PathName, ResetToken, SendableFrames, SpaceId};
-use std::cell::UnsafeCell;
 use std::fmt;
 use std::ops::Range;
 use std::ptr::null_mut;
@@ -97,7 +96,7 @@ pub struct IdStats {
 /// The loss recovery of one connection. You pass in events with their times; it returns answers and errors. It does no
 /// I/O and reads no clock. Each answer is proved to follow from the events before it.
 ///
-/// It may move to another thread, and be used by one thread at a time.
+/// It may move to another thread. Several threads may read it at once, while no event is applied.
 ///
 /// ```
 /// use quic_recovery::*;
@@ -113,14 +112,20 @@ pub struct IdStats {
 /// # Ok::<(), Box<dyn std::error::Error>>(())
 /// ```
 pub struct Recovery {
-    /// It holds a recovery from `new` to `drop`. The library moves its bytes while it reads them, so reading too needs
-    /// a mutable pointer. No call is made within another.
-    handle: UnsafeCell<ffi::Handle>,
+    /// It holds a recovery from `new` to `drop`. Calls that change the recovery get this handle, and readers a copy of
+    /// it ([`Recovery::reader`]).
+    handle: ffi::Handle,
 }
 
 // SAFETY: the handle owns one block of memory and all that it leads to. The library has no thread locals and no mutable
 // statics, and allocates and frees memory by `malloc` and `free`, which any thread may call.
 unsafe impl Send for Recovery {}
+
+// SAFETY: what `&self` permits only reads. Each reader of the library guarantees that the recovery is unchanged
+// (`ReadsHandle`), and its code borrows the recovery as shared, which has no interior mutability. It writes only to the
+// bytes of the handle, from which it takes the pointer and puts it back, and each call has a copy of these. Methods that
+// change the recovery take `&mut self`, so no reader runs at the same time.
+unsafe impl Sync for Recovery {}
 
 impl fmt::Debug for Recovery {
     fn fmt(&self, f: &mut fmt::Formatter<'_>) -> fmt::Result {
@@ -133,7 +138,7 @@ impl fmt::Debug for Recovery {
 impl Drop for Recovery {
     fn drop(&mut self) {
         // SAFETY: the handle holds a recovery, and is not used again.
-        unsafe { ffi::recovery_ffi_drop(self.handle.get()) }
+        unsafe { ffi::recovery_ffi_drop(&mut self.handle) }
     }
 }
 
@@ -376,9 +381,7 @@ impl Recovery {
         };
         match ConfigError::from_number(code) {
             Some(error) => Err(error),
-            None => Ok(Recovery {
-                handle: UnsafeCell::new(handle),
-            }),
+            None => Ok(Recovery { handle }),
         }
     }
 
@@ -415,7 +418,7 @@ impl Recovery {
     #[inline]
     pub(crate) fn take_pending(&mut self, space: SpaceId) -> Result<Answer, Refusal> {
         // SAFETY: the handle holds a recovery.
-        let room = unsafe { ffi::recovery_ffi_pending_items(self.handle.get(), space as u8) };
+        let room = unsafe { ffi::recovery_ffi_pending_items(&mut self.reader(), space as u8) };
         if room > 0 {
             return self.take_items(space, room);
         }
@@ -440,19 +443,29 @@ impl Recovery {
     /// Returns a vector of as many zeros as a probe takes items. Fails with `NoMemory` alone.
     pub(crate) fn room_for_probe(&self, space: SpaceId) -> Result<Vec<u64>, Refusal> {
         // SAFETY: the handle holds a recovery.
-        with_room(unsafe { ffi::recovery_ffi_probe_items(self.handle.get(), space as u8) })
+        with_room(unsafe { ffi::recovery_ffi_probe_items(&mut self.reader(), space as u8) })
     }
 
     /// Applies one event. Returns its reply in numbers.
     #[inline]
     pub(crate) fn reply_to(&mut self, event: Event<'_>) -> ffi::EncodedReply {
         // SAFETY: the handle holds a recovery, and `self` is borrowed alone.
-        unsafe { hand_in(self.handle.get_mut(), event) }
+        unsafe { hand_in(&mut self.handle, event) }
     }
 
-    /// Returns the library's handle.
-    pub(crate) fn handle(&self) -> *mut ffi::Handle {
-        self.handle.get()
+    /// Returns the library's handle, for a call that changes the recovery.
+    pub(crate) fn handle(&mut self) -> &mut ffi::Handle {
+        &mut self.handle
+    }
+
+    /// Returns a copy of the library's handle, for one call of a reader: a reader writes to the handle's bytes, and
+    /// changes nothing that they lead to.
+    #[inline(always)]
+    pub(crate) fn reader(&self) -> ffi::Handle {
+        ffi::Handle {
+            ptr: self.handle.ptr,
+            holds: self.handle.holds,
+        }
     }
 
     /// Returns the reply of these numbers.
@@ -504,8 +517,8 @@ impl Recovery {
     /// Returns the items that were taken last, in place of as many zeros.
     pub(crate) fn taken(&self, mut items: Vec<u64>) -> Vec<u64> {
         if !items.is_empty() {
-            let (handle, count) = (self.handle.get(), items.len());
-            // SAFETY: the handle holds a recovery, no other call runs, and there is room for `count` items.
+            let (handle, count) = (&mut self.reader(), items.len());
+            // SAFETY: the handle holds a recovery, the call only reads, and there is room for `count` items.
             let found = unsafe { ffi::recovery_ffi_last_items(handle, items.as_mut_ptr(), count) };
             assert_eq!(
                 found, count,
@@ -520,7 +533,7 @@ impl Recovery {
         let mut none = [];
         // SAFETY: the handle holds a recovery, and nothing is written to an empty slice.
         let count =
-            unsafe { ffi::recovery_ffi_last_items(self.handle.get(), none.as_mut_ptr(), 0) };
+            unsafe { ffi::recovery_ffi_last_items(&mut self.reader(), none.as_mut_ptr(), 0) };
         Ok(self.taken(with_room(count as u64)?))
     }
 
@@ -544,16 +557,16 @@ impl Recovery {
     /// ```
     pub fn reset_token(&self) -> ResetToken {
         let mut bytes = [0; 16];
-        // SAFETY: the handle holds a recovery, no other call runs, and sixteen bytes are written.
-        unsafe { ffi::recovery_ffi_token(self.handle.get(), &mut bytes) };
+        // SAFETY: the handle holds a recovery, the call only reads, and sixteen bytes are written.
+        unsafe { ffi::recovery_ffi_token(&mut self.reader(), &mut bytes) };
         ResetToken::from(bytes)
     }
 
     /// Returns whether these are the bytes of the token of the last `Answer::Retire` of a connection ID, all zeros
     /// before the first. At the end of a datagram they are a stateless reset by the peer (RFC 9000, 10.3.1).
     pub fn is_reset_token(&self, token: &[u8; 16]) -> bool {
-        // SAFETY: the handle holds a recovery, and no other call runs.
-        unsafe { ffi::recovery_ffi_is_token(self.handle.get(), token) }
+        // SAFETY: the handle holds a recovery, and the call only reads.
+        unsafe { ffi::recovery_ffi_is_token(&mut self.reader(), token) }
     }
 
     /// Returns the state of a path, or `None` if there is no such path.
@@ -575,8 +588,8 @@ impl Recovery {
     /// # Ok::<(), Box<dyn std::error::Error>>(())
     /// ```
     pub fn path(&self, path: PathName) -> Option<PathStats> {
-        // SAFETY: the handle holds a recovery, and no other call runs.
-        let view = unsafe { ffi::recovery_ffi_path(self.handle.get(), is_previous(path)) };
+        // SAFETY: the handle holds a recovery, and the call only reads.
+        let view = unsafe { ffi::recovery_ffi_path(&mut self.reader(), is_previous(path)) };
         view.lives.then(|| PathStats {
             window: view.window,
             ssthresh: view.has_ssthresh.then_some(view.ssthresh),
@@ -617,8 +630,8 @@ impl Recovery {
     /// ```
     #[inline]
     pub fn window_and_flight(&self) -> (u64, u64) {
-        // SAFETY: the handle holds a recovery, and no other call runs.
-        let view = unsafe { ffi::recovery_ffi_window(self.handle.get()) };
+        // SAFETY: the handle holds a recovery, and the call only reads.
+        let view = unsafe { ffi::recovery_ffi_window(&mut self.reader()) };
         (view.window, view.in_flight)
     }
 
@@ -641,8 +654,8 @@ impl Recovery {
     /// ```
     #[inline]
     pub fn rtt(&self) -> Duration {
-        // SAFETY: the handle holds a recovery, and no other call runs.
-        Duration::from_nanos(unsafe { ffi::recovery_ffi_rtt(self.handle.get()) }.rtt)
+        // SAFETY: the handle holds a recovery, and the call only reads.
+        Duration::from_nanos(unsafe { ffi::recovery_ffi_rtt(&mut self.reader()) }.rtt)
     }
 
     /// Returns the probe timeout of the path in use without the peer's max_ack_delay (RFC 9002, 6.2.1).
@@ -661,15 +674,15 @@ impl Recovery {
     /// ```
     #[inline]
     pub fn pto_base(&self) -> Duration {
-        // SAFETY: the handle holds a recovery, and no other call runs.
-        Duration::from_nanos(unsafe { ffi::recovery_ffi_rtt(self.handle.get()) }.pto_base)
+        // SAFETY: the handle holds a recovery, and the call only reads.
+        Duration::from_nanos(unsafe { ffi::recovery_ffi_rtt(&mut self.reader()) }.pto_base)
     }
 
     /// Returns the sequence number of the peer's connection ID in use (RFC 9000, 5.1.1).
     #[inline]
     pub fn active_id(&self) -> u64 {
-        // SAFETY: the handle holds a recovery, and no other call runs.
-        unsafe { ffi::recovery_ffi_active_id(self.handle.get()) }
+        // SAFETY: the handle holds a recovery, and the call only reads.
+        unsafe { ffi::recovery_ffi_active_id(&mut self.reader()) }
     }
 
     /// Returns whether a space tracks a packet that counts in flight (RFC 9002, 2), on any path.
@@ -689,8 +702,8 @@ impl Recovery {
     /// ```
     #[inline]
     pub fn has_in_flight(&self, space: SpaceId) -> bool {
-        // SAFETY: the handle holds a recovery, and no other call runs.
-        unsafe { ffi::recovery_ffi_has_in_flight(self.handle.get(), space as u8) }
+        // SAFETY: the handle holds a recovery, and the call only reads.
+        unsafe { ffi::recovery_ffi_has_in_flight(&mut self.reader(), space as u8) }
     }
 
     /// Returns what a space has to send, or `None` once it is discarded.
@@ -711,8 +724,8 @@ impl Recovery {
     /// # Ok::<(), Box<dyn std::error::Error>>(())
     /// ```
     pub fn space(&self, space: SpaceId) -> Option<SpaceStats> {
-        // SAFETY: the handle holds a recovery, and no other call runs.
-        let view = unsafe { ffi::recovery_ffi_space(self.handle.get(), space as u8) };
+        // SAFETY: the handle holds a recovery, and the call only reads.
+        let view = unsafe { ffi::recovery_ffi_space(&mut self.reader(), space as u8) };
         view.lives.then(|| SpaceStats {
             largest_received: view.largest_received,
             ranges: usize::try_from(view.ranges).unwrap_or(usize::MAX),
@@ -757,9 +770,9 @@ impl Recovery {
     /// # Ok::<(), Box<dyn std::error::Error>>(())
     /// ```
     pub fn ack_delay(&self, space: SpaceId, now: Instant) -> Option<Duration> {
-        // SAFETY: the handle holds a recovery, and no other call runs.
+        // SAFETY: the handle holds a recovery, and the call only reads.
         let view =
-            unsafe { ffi::recovery_ffi_ack_delay(self.handle.get(), space as u8, now.as_nanos()) };
+            unsafe { ffi::recovery_ffi_ack_delay(&mut self.reader(), space as u8, now.as_nanos()) };
         view.some.then_some(Duration::from_nanos(view.nanos))
     }
 
@@ -779,8 +792,8 @@ impl Recovery {
     /// ```
     pub fn ranges(&self, space: SpaceId) -> impl Iterator<Item = Range<u64>> + '_ {
         (0..).map_while(move |index| {
-            // SAFETY: the handle holds a recovery, and no other call runs.
-            let view = unsafe { ffi::recovery_ffi_range(self.handle.get(), space as u8, index) };
+            // SAFETY: the handle holds a recovery, and the call only reads.
+            let view = unsafe { ffi::recovery_ffi_range(&mut self.reader(), space as u8, index) };
             view.some.then_some(view.start..view.end)
         })
     }
@@ -803,8 +816,8 @@ impl Recovery {
     /// # Ok::<(), Box<dyn std::error::Error>>(())
     /// ```
     pub fn timer(&self, timer: Timer) -> Option<Instant> {
-        // SAFETY: the handle holds a recovery, and no other call runs.
-        let view = unsafe { ffi::recovery_ffi_timer(self.handle.get(), timer as u8) };
+        // SAFETY: the handle holds a recovery, and the call only reads.
+        let view = unsafe { ffi::recovery_ffi_timer(&mut self.reader(), timer as u8) };
         view.some.then_some(Instant::from_nanos(view.nanos))
     }
 
@@ -824,15 +837,15 @@ impl Recovery {
     /// # Ok::<(), Box<dyn std::error::Error>>(())
     /// ```
     pub fn next_id_timeout(&self) -> Option<Instant> {
-        // SAFETY: the handle holds a recovery, and no other call runs.
-        let view = unsafe { ffi::recovery_ffi_next_id_timeout(self.handle.get()) };
+        // SAFETY: the handle holds a recovery, and the call only reads.
+        let view = unsafe { ffi::recovery_ffi_next_id_timeout(&mut self.reader()) };
         view.some.then_some(Instant::from_nanos(view.nanos))
     }
 
     /// Returns the caller's marks of a path, or `None` if there is no such path.
     pub fn marks(&self, path: PathName) -> Option<PathMarks> {
-        // SAFETY: the handle holds a recovery, and no other call runs.
-        let view = unsafe { ffi::recovery_ffi_marks(self.handle.get(), is_previous(path)) };
+        // SAFETY: the handle holds a recovery, and the call only reads.
+        let view = unsafe { ffi::recovery_ffi_marks(&mut self.reader(), is_previous(path)) };
         let space = SpaceId::VALUES
             .into_iter()
             .find(|it| *it as u8 == view.first_space)?;
@@ -873,7 +886,7 @@ impl Recovery {
             lives: true,
         };
         // SAFETY: the handle holds a recovery, and `self` is borrowed alone.
-        unsafe { ffi::recovery_ffi_set_marks(self.handle.get_mut(), is_previous(path), &given) }
+        unsafe { ffi::recovery_ffi_set_marks(&mut self.handle, is_previous(path), &given) }
     }
 
     /// Returns the connection IDs of both endpoints, and their max_ack_delay.
@@ -893,8 +906,8 @@ impl Recovery {
     /// # Ok::<(), Box<dyn std::error::Error>>(())
     /// ```
     pub fn ids(&self) -> IdStats {
-        // SAFETY: the handle holds a recovery, and no other call runs.
-        let view = unsafe { ffi::recovery_ffi_ids(self.handle.get()) };
+        // SAFETY: the handle holds a recovery, and the call only reads.
+        let view = unsafe { ffi::recovery_ffi_ids(&mut self.reader()) };
         IdStats {
             active: view.active,
             issued: view.issued,

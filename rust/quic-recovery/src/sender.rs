@@ -375,6 +375,20 @@ fn frame(ack: &Ack, told: &Acknowledged) -> ffi::AckFrame {
     }
 }
 
+/// Passes a frame with its ranges. It is processed if the answer fits.
+fn take(
+    recovery: &mut Recovery,
+    space: SpaceId,
+    now: Instant,
+    frame: &ffi::AckFrame,
+    ranges: &[ffi::AckRange],
+) -> ffi::EncodedReply {
+    let (space, now) = (space as u8, now.as_nanos());
+    let (first, count) = (ranges.as_ptr(), ranges.len());
+    // SAFETY: the handle holds a recovery, which is borrowed alone, and the ranges are a slice.
+    unsafe { ffi::recovery_ffi_sender_ack(recovery.handle(), space, now, frame, first, count) }
+}
+
 /// Returns the space with this number.
 fn space_of(number: u64) -> SpaceId {
     match SpaceId::VALUES.into_iter().find(|it| *it as u64 == number) {
@@ -564,8 +578,8 @@ impl Sender {
     /// # Ok::<(), Box<dyn std::error::Error>>(())
     /// ```
     pub fn pacer_room(&self, now: Instant) -> u64 {
-        // SAFETY: the handle holds a recovery, and no other call runs.
-        unsafe { ffi::recovery_ffi_pacer_room(self.recovery.handle(), now.as_nanos()) }
+        // SAFETY: the handle holds a recovery, and the call only reads.
+        unsafe { ffi::recovery_ffi_pacer_room(&mut self.recovery.reader(), now.as_nanos()) }
     }
 
     /// Returns how many bytes the amplification limit still lets out on the path in use (RFC 9000, 8.1); `None` if its
@@ -607,15 +621,15 @@ impl Sender {
     /// # Ok::<(), Box<dyn std::error::Error>>(())
     /// ```
     pub fn smallest_tracked(&self, space: SpaceId) -> Option<u64> {
-        // SAFETY: the handle holds a recovery, and no other call runs.
+        // SAFETY: the handle holds a recovery, and the call only reads.
         let view =
-            unsafe { ffi::recovery_ffi_smallest_tracked(self.recovery.handle(), space as u8) };
+            unsafe { ffi::recovery_ffi_smallest_tracked(&mut self.recovery.reader(), space as u8) };
         view.is_some.then_some(view.number)
     }
 
     fn view(&self) -> ffi::SenderView {
-        // SAFETY: the handle holds a recovery, and no other call runs.
-        unsafe { ffi::recovery_ffi_sender_view(self.recovery.handle()) }
+        // SAFETY: the handle holds a recovery, and the call only reads.
+        unsafe { ffi::recovery_ffi_sender_view(&mut self.recovery.reader()) }
     }
 
     /// Returns the number of consecutive probe timeouts, each of which doubles the next (RFC 9002, 6.2.1).
@@ -635,8 +649,8 @@ impl Sender {
     /// # Ok::<(), Box<dyn std::error::Error>>(())
     /// ```
     pub fn pto_count(&self) -> u32 {
-        // SAFETY: the handle holds a recovery, and no other call runs.
-        unsafe { ffi::recovery_ffi_pto_count(self.recovery.handle()) }
+        // SAFETY: the handle holds a recovery, and the call only reads.
+        unsafe { ffi::recovery_ffi_pto_count(&mut self.recovery.reader()) }
     }
 
     /// Returns whether a datagram with packets of a space may be sent now, and counts it if so. Report its packets by
@@ -859,7 +873,7 @@ impl Sender {
             // most frames have one range, which needs no vector
             [(first, last)] => {
                 let one = [ffi::AckRange { first, last }];
-                self.take(space, now, &frame(ack, told), &one)
+                take(&mut self.recovery, space, now, &frame(ack, told), &one)
             }
             _ => self.take_ranges(space, now, ack, ranges, told)?,
         };
@@ -882,7 +896,8 @@ impl Sender {
         told: &Acknowledged,
     ) -> Result<ffi::EncodedReply, Refusal> {
         self.convert(ranges)?;
-        Ok(self.take(space, now, &frame(ack, told), &self.ranges))
+        let frame = frame(ack, told);
+        Ok(take(&mut self.recovery, space, now, &frame, &self.ranges))
     }
 
     /// Passes a frame again if its answer needs more room. Then reads an outcome that has more than packets.
@@ -917,25 +932,10 @@ impl Sender {
         Ok(())
     }
 
-    /// Passes a frame with its ranges. It is processed if the answer fits. Only [`Sender::on_ack_into`] calls it.
-    fn take(
-        &self,
-        space: SpaceId,
-        now: Instant,
-        frame: &ffi::AckFrame,
-        ranges: &[ffi::AckRange],
-    ) -> ffi::EncodedReply {
-        let handle = self.recovery.handle();
-        let (space, now) = (space as u8, now.as_nanos());
-        let (first, count) = (ranges.as_ptr(), ranges.len());
-        // SAFETY: the handle holds a recovery, the caller borrows the sender alone, and the ranges are a slice.
-        unsafe { ffi::recovery_ffi_sender_ack(handle, space, now, frame, first, count) }
-    }
-
     /// Returns how many packets a space tracks, and when the next is lost.
     fn tracked(&self, space: SpaceId) -> ffi::TrackedView {
-        // SAFETY: the handle holds a recovery, and no other call runs.
-        unsafe { ffi::recovery_ffi_tracked(self.recovery.handle(), space as u8) }
+        // SAFETY: the handle holds a recovery, and the call only reads.
+        unsafe { ffi::recovery_ffi_tracked(&mut self.recovery.reader(), space as u8) }
     }
 
     /// Returns how many packets a timeout may declare lost: those of one space, if they may be lost by now.
@@ -1294,8 +1294,8 @@ impl Sender {
     /// # Errors
     /// `NoMemory` if the vectors cannot grow.
     pub fn last_outcome(&self, into: &mut Acknowledged) -> Result<(), Refusal> {
-        // SAFETY: the handle holds a recovery, and no other call runs.
-        let view = unsafe { ffi::recovery_ffi_last_outcome(self.recovery.handle()) };
+        // SAFETY: the handle holds a recovery, and the call only reads.
+        let view = unsafe { ffi::recovery_ffi_last_outcome(&mut self.recovery.reader()) };
         self.packets(view.acked, into)?;
         self.lost(view.lost, &mut into.losses.numbers)?;
         into.losses.probe = view.has_probe.then_some(view.probe);
@@ -1327,8 +1327,12 @@ impl Sender {
     #[inline(always)]
     fn words(&self, into: &mut Vec<u64>) -> usize {
         into.clear();
-        let (handle, out, room) = (self.recovery.handle(), into.as_mut_ptr(), into.capacity());
-        // SAFETY: the handle holds a recovery, no other call runs, and there is room for `room` words.
+        let (handle, out, room) = (
+            &mut self.recovery.reader(),
+            into.as_mut_ptr(),
+            into.capacity(),
+        );
+        // SAFETY: the handle holds a recovery, the call only reads, and there is room for `room` words.
         let wanted = unsafe { ffi::recovery_ffi_told_packets(handle, out, room) };
         if wanted <= room {
             // SAFETY: there is room for these words, so the call has written them.
@@ -1344,8 +1348,8 @@ impl Sender {
         into.try_reserve(count).map_err(|_| Refusal::NoMemory)?;
         into.resize(count, 0);
         if count > 0 {
-            let (handle, out) = (self.recovery.handle(), into.as_mut_ptr());
-            // SAFETY: the handle holds a recovery, no other call runs, and there is room for `count` numbers.
+            let (handle, out) = (&mut self.recovery.reader(), into.as_mut_ptr());
+            // SAFETY: the handle holds a recovery, the call only reads, and there is room for `count` numbers.
             unsafe { ffi::recovery_ffi_told_numbers(handle, true, out, count) };
         }
         Ok(())
