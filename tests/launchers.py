@@ -1,10 +1,11 @@
 #!/usr/bin/env python3
-"""Tests ./prove, ./check and the launchers as a user meets them, with a stand-in for the toolchain, in copies of the tree without any
-build: two at once, an interrupt, no toolchain, a read-only tree, another logic; a program that is missing, built, older than its
-sources, or prebuilt; answers that are too long, a pipe that nobody reads, and the time that ./prove expects."""
+"""Tests ./prove, ./check, ./dist and the launchers as a user meets them, with a stand-in for the toolchain, in copies of the tree without
+any build: two at once, an interrupt, no toolchain, no Python, a read-only tree, another logic; a program that is missing, built, built
+elsewhere, committed, of other sources, or prebuilt; answers that are too long, a pipe that nobody reads, and the time that ./prove
+expects."""
+import contextlib
 import hashlib
-import importlib.machinery
-import importlib.util
+import importlib
 import os
 import pathlib
 import re
@@ -15,12 +16,13 @@ import sys
 import tempfile
 import time
 
+import check
 import tree
 from tree import ROOT
 
 tests = tree.Tests("launchers")
 LAUNCHERS = {name: crate for crate, name in tree.LAUNCHERS.items()}
-TOOLS = "awk bash cat dirname env find grep head mkdir mktemp readlink rm sh sha256sum sleep sort touch xargs".split()
+TOOLS = "awk bash cat dirname env find git grep head mkdir mktemp readlink rm sh sha256sum sleep sort stat touch xargs".split()
 MISSING = f"the Rattle toolchain is missing: its command rt ({tree.logic()}) is not on the PATH\n"
 SECONDS = 300  # by which all that is waited for has happened
 
@@ -32,7 +34,7 @@ lib | run)
     grep -q "^${PWD##*/}[ :]" ../../crates.txt || exit 1
     sleep 0.1
     mkdir -p out/rlib
-    touch out/rlib/built
+    touch out/rlib/stamp
     [ ! -f src/main.rt ] || touch "out/${PWD##*/}" ;;
 try)
     if [ -n "$TOO_LONG" ]; then
@@ -77,12 +79,48 @@ class Place:
         self.toolchain.chmod(0o755)
 
     def how(self, **more):
-        names = {"PATH": str(self.tools), "SAID_LOGIC": tree.logic(), "STARTED": str(self.started), "PYTHONDONTWRITEBYTECODE": "1"}
+        names = {"PATH": str(self.tools), "SAID_LOGIC": tree.logic(), "STARTED": str(self.started), "PYTHONDONTWRITEBYTECODE": "1", "CI": ""}
         return {"cwd": self.root, "env": {**os.environ, **names, **more}}
 
     def ran(self, *words, **more):
         status, output, errors = tree.ran(words, **self.how(**more))
         return status, output.decode(), errors.decode()
+
+    def script(self, path, text, status=0):
+        """Writes a shell script that prints a text with its arguments."""
+        path.parent.mkdir(parents=True, exist_ok=True)
+        path.write_text(f'#!/bin/sh\necho "{text}: $*"\nexit {status}\n')
+        path.chmod(0o755)
+        return path
+
+    def stand_ins(self):
+        """Scripts that pass one test each, in the places of those of tests/."""
+        for it in (self.root / "tests").glob("*.py"):
+            if it.stem not in ("tree", "check", "prove", "dist"):
+                it.write_text(f"#!/bin/sh\necho '{it.stem}: 1 passed, 0 failed'\n")
+
+    def build(self, crate):
+        """A stand-in for a program that ./prove built here."""
+        program = self.script(self.root / "crates" / crate / "out" / crate, "the program ran", 3)
+        words = ["bash", "-c", '. ./launch && record "$0" "$(sum_of_sources "$0")" "$0"', crate]
+        subprocess.run(words, check=True, **self.how())
+        return program
+
+    def prebuild(self, *names):
+        """Stand-ins for prebuilt programs of the sources here."""
+        at = self.root / "prebuilt" / tree.TARGET
+        programs = [self.script(at / "bin" / it, "the prebuilt program ran", 4) for it in names]
+        crates = [LAUNCHERS[it] for it in names]
+        (at / "PROVED").write_text("".join(f"sources {it} {sum_of(self.root, it)}\n" for it in crates))
+        (at / "SHA256SUMS").write_text("".join(f"{checksum(it.read_bytes())}  bin/{it.name}\n" for it in programs))
+        return programs
+
+    def odd(self):
+        """A folder whose name a shell would take apart, with a file in it."""
+        folder = self.root.parent / "it's a \"folder\""
+        folder.mkdir(exist_ok=True)
+        (folder / "of the caller").touch()
+        return folder
 
     def begun(self, *words):
         # a shell starts what runs in its background with interrupts ignored, and what that starts ignores them too
@@ -113,7 +151,7 @@ def two_at_once(place):
     for call, name in (first, "recovery_paths"), (second, "recovery_queue"):
         said = call.communicate(timeout=SECONDS)[1]
         tests.expect(f"{name}, beside another", (call.returncode, said.splitlines()[-1]), (0, f"prove: {name} is proved and built"))
-    kept = [it for it in tree.made_of("recovery_paths") if not (place.root / "crates" / it / "out" / "rlib" / "built").is_file()]
+    kept = [it for it in tree.made_of("recovery_paths") if not (place.root / "crates" / it / "out" / "rlib" / "stamp").is_file()]
     tests.expect("what both proved is kept", kept, [])
 
 
@@ -128,16 +166,9 @@ def progress(place):
     tests.expect("another logic", said.startswith(warning), True)
 
 
-def module_of(name):
-    loader = importlib.machinery.SourceFileLoader(name, str(ROOT / name))
-    module = importlib.util.module_from_spec(importlib.util.spec_from_loader(name, loader))
-    loader.exec_module(module)
-    return module
-
-
 def estimates():
     """Three crates of 100 seconds, each a dependency of the next, and a fourth that depends on the first alone. Some are kept."""
-    prove = module_of("prove")
+    prove = importlib.import_module("prove")
     needs = {"low": [], "middle": ["low"], "high": ["middle"], "beside": ["low"]}
     prove.seconds_of, prove.is_kept = lambda name: 100, lambda name: name in kept
     for kept, jobs, times, seconds in [([], 1, 1, 400), ([], 8, 1, 300), ([], 8, 2, 600), (["low"], 8, 1, 206), (["middle"], 1, 1, 400)]:
@@ -150,18 +181,29 @@ def estimates():
     tests.expect("at first", shown.text(), "prove: 0 of 4 crates, about 5 minutes more")
     shown.done.update(needs)
     tests.expect("at the end", shown.text(), "prove: 4 of 4 crates")
-    whole = module_of("prove")
+    whole = importlib.reload(prove)
     whole.is_kept = lambda name: False
     minutes = whole.Plan(tree.made_of("recovery_program"), 4).seconds_left(set(), {}, {}, 1) / 60
     tests.expect("the program takes some ten to twenty minutes", 5 < minutes < 30, True)
 
 
+def minutes_left():
+    """The gate with two crates of four proved at half the usual speed, one of them kept from an earlier run."""
+    gate = check.Gate(2)
+    gate.seconds = {"low": 100, "middle": 100, "high": 400, "beside": 200}
+    scripts = 60 * sum(it.minutes for it in check.SCRIPTS) / 2
+    tests.expect("minutes at first", gate.minutes_left(0), (800 / 2 + scripts) / 60)
+    for line in "rt: low proved\n", "rt: low: its tests are proved\n", "rt: beside is kept: it was proved here\n":
+        gate.add(line)
+    ratio = (60 + 100) / (60 + 50)
+    tests.expect("minutes with half of it", gate.minutes_left(100), ratio * (500 / 2 + scripts) / 60)
+    tests.expect("what has passed", gate.passed(), 3)
+
+
 def interrupted(place):
     """./check with scripts that pass one each, while rt ci runs."""
-    scripts = [it for it in (place.root / "tests").glob("*.py") if it.name != "tree.py"]
-    for it in scripts:
-        it.write_text(f"#!/bin/sh\necho '{it.stem}: 1 passed, 0 failed'\n")
-    readings = len(module_of("check").READINGS)
+    place.stand_ins()
+    readings = len(check.READINGS)
     for ends in lambda call: os.killpg(call.pid, signal.SIGINT), lambda call: call.terminate():
         call = place.begun("./check")
         begins = waited_for(lambda: place.started.is_file() and place.started.read_text().endswith("\n"))
@@ -185,13 +227,29 @@ def interrupted(place):
 def without_toolchain(place):
     place.toolchain.unlink()
     tests.expect("./prove without rt", place.ran("./prove"), (1, "", f"prove: {MISSING}"))
-    for it in [it for it in (place.root / "tests").glob("*.py") if it.name != "tree.py"]:
-        it.write_text(f"#!/bin/sh\necho '{it.stem}: 1 passed, 0 failed'\n")
+    place.stand_ins()
     status, output, said = place.ran("./check")
-    readings = len(module_of("check").READINGS)
-    tests.expect("./check without rt", (status, output), (1, f"{readings} passed, 2 failed\n"))
-    tests.expect("it says so at once", MISSING[:-1] in said.splitlines()[0], True)
+    readings = len(check.READINGS)
+    tests.expect("./check without rt and programs", (status, output), (1, f"unproved: {readings} passed, 1 failed, 1 skipped\n"))
     tests.expect("it says what is left out", "the tests of the programs are left out: there is no prebuilt/" in said, True)
+    place.prebuild(*LAUNCHERS)
+    skipped = [it.title for it in check.SCRIPTS if it.needs]
+    passed = readings + len(check.SCRIPTS) - len(skipped)
+    status, output, said = place.ran("./check")
+    tests.expect("./check without rt", (status, output), (0, f"unproved: {passed} passed, 0 failed, {len(skipped) + 1} skipped\n"))
+    lines = said.splitlines()
+    tests.expect("its first line", f"nothing is proved here: {MISSING[:-1]}" in lines[0], True)
+    tests.expect("its last lines", f"nothing was proved here: {MISSING[:-1]}" in lines[-2], True)
+    why = {"rt": MISSING[:-1], "rustc": "rustc 1.82 or later is not on the PATH"}
+    for it in check.SCRIPTS:
+        tests.expect(f"{it.title}: whether it is skipped", f": {it.title}: skipped: {why.get(it.needs)}\n" in said, it.title in skipped)
+    for words, more in (["./check", "--all"], {}), (["./check"], {"CI": "true"}):
+        wanted = (1, f"unproved: {passed} passed, 1 failed, {len(skipped)} skipped\n")
+        tests.expect(f"{' '.join(words)} with {more}, without rt", place.ran(*words, **more)[:2], wanted)
+    tests.expect("./check --only", place.ran("./check", "--only", "program", "-k", "acks")[:2], (0, "partial: 1 passed, 0 failed\n"))
+    tests.expect("./check --only a part that needs rt", place.ran("./check", "--only", "rust")[:2], (0, "partial: 0 passed, 0 failed, 1 skipped\n"))
+    tests.expect("./check --only what there is not", place.ran("./check", "--only", "nothing")[:2], (2, ""))
+    shutil.rmtree(place.root / "prebuilt")
     tests.expect("./dist without rt", place.ran("./dist"), (1, "", f"dist: {MISSING}"))
     for name, crate in LAUNCHERS.items():
         usage = (place.root / "crates" / crate / "help.txt").read_text()
@@ -225,40 +283,53 @@ def notice(name, crate, why):
     return f"{name}: {why}: compiles its sources without proof, in about half a minute and at each call; {proves} proves and keeps it\n"
 
 
-def touch(path, seconds):
-    os.utime(path, (time.time() + seconds,) * 2)
+WORDS = {"recovery-replay": ["7", "24000"], "recovery-trace": ["--controller", "cubic", "7"], "recovery-sender": ["established"],
+         "recovery-link": ["loss=1%", "--qlog"], "recovery-pictures": ["tunnel"]}
+
+
+@contextlib.contextmanager
+def changed(path):
+    """A file with one line more, and with an older time, as an archive or rsync leaves it."""
+    text = path.read_bytes()
+    path.write_bytes(text + b"// changed\n")
+    os.utime(path, (0, 0))
+    try:
+        yield
+    finally:
+        path.write_bytes(text)
 
 
 def launched(place, name, crate):
-    """A program that is missing, there, and older than what it is made of or than what it is not made of."""
-    words = {"recovery-pictures": ["tunnel"], "recovery-link": ["loss=1%", "--qlog"]}.get(name, ["7", "24000"])
+    """A program that is missing, built here, of other sources, and built elsewhere."""
+    words = WORDS[name]
     ran = lambda **more: place.ran(f"./{name}", *words, **more)
     unproved = lambda why: (2, f"the sources ran: {' '.join(words)}\n", f"{notice(name, crate, why)}line 2: told\n")
     tests.expect(f"{name}: no program", ran(), unproved("not proved yet"))
     long = f"{notice(name, crate, 'not proved yet')}{name}: the answers pass 1,048,576 bytes, and no more can be written without proof\n"
     tests.expect(f"{name}: too many answers", ran(TOO_LONG="1"), (1, "", long))
-    program = place.root / "crates" / crate / "out" / crate
-    program.parent.mkdir(exist_ok=True)
-    program.write_text('#!/bin/sh\necho "the program ran: $*"\nexit 3\n')
-    program.chmod(0o755)
-    touch(program, 10)
+    program = place.build(crate)
     proved = (3, f"the program ran: {' '.join(words)}\n", "")
     tests.expect(f"{name}: an up-to-date program", ran(), proved)
     for word in "--help", "--version", "anything":
         tests.expect(f"{name} {word}, handed on", place.ran(f"./{name}", word), (3, f"the program ran: {word}\n", ""))
-    for path in "crates/quic_recovery_tests/src/lines.rt", "crates.txt", "README.md", "examples/acks.txt":
-        touch(place.root / path, 20)
-    tests.expect(f"{name}: newer tests", ran(), proved)
+    for path in "crates/quic_recovery_tests/src/lines.rt", "README.md", "examples/acks.txt":
+        with changed(place.root / path):
+            tests.expect(f"{name}: another {path}", ran(), proved)
+    (place.root / "crates/recovery_base/src/time.rt").touch()
+    tests.expect(f"{name}: a source of the same text is newer", ran(), proved)
     status, output, said = tree.ran([place.root / name, *words], **{**place.how(), "cwd": "/"})
     tests.expect(f"{name}: from another folder", (status, output.decode(), said.decode()), proved)
     link = place.tools / "linked"
     link.symlink_to(place.root / name)
     tests.expect(f"{name}: by a link", place.ran(str(link), *words), proved)
     link.unlink()
-    for path in "crates/recovery_base/src/time.rt", "crates/recovery_history/proofs", f"crates/{crate}/src/main.rt":
-        touch(place.root / path, 20)
-        tests.expect(f"{name}: a newer {path}", ran(), unproved("changed since it was proved"))
-        touch(place.root / path, 0)
+    for path in "crates/recovery_base/src/time.rt", "crates/recovery_history/proofs/ReachabilityLaws.antt", f"crates/{crate}/src/main.rt":
+        with changed(place.root / path):
+            tests.expect(f"{name}: another {path}", ran(), unproved("changed since it was proved"))
+    place.script(program, "another program ran")
+    tests.expect(f"{name}: a program that replaced the built one", ran(), unproved("changed since it was proved"))
+    tests.expect(f"{name}: in a folder whose name has a quote", ran(TMPDIR=str(place.odd())), unproved("changed since it was proved"))
+    tests.expect("nothing is deleted that was there, and nothing left", [it.name for it in place.odd().iterdir()], ["of the caller"])
 
 
 def checksum(text):
@@ -274,23 +345,18 @@ def sum_of(root, crate):
 
 def prebuilt(place, name, crate):
     """A prebuilt program runs exactly if it is the listed one, and was built from exactly the sources here."""
-    at = place.root / "prebuilt" / tree.TARGET
-    program = at / "bin" / name
-    program.parent.mkdir(parents=True, exist_ok=True)
-    program.write_text('#!/bin/sh\necho "the prebuilt program ran: $*"\nexit 4\n')
-    program.chmod(0o755)
-    (at / "PROVED").write_text(f"sources {crate} {sum_of(place.root, crate)}\n")
-    (at / "SHA256SUMS").write_text(f"{checksum(program.read_bytes())}  bin/{name}\n")
-    words = {"recovery-replay": ["7", "24000"], "recovery-trace": ["--controller", "cubic", "7"], "recovery-sender": ["established"],
-             "recovery-link": ["loss=1%", "--qlog"], "recovery-pictures": ["tunnel"]}[name]
+    program, = place.prebuild(name)
+    words = WORDS[name]
     ran = lambda *words: place.ran(f"./{name}", *words)
     runs = (4, f"the prebuilt program ran: {' '.join(words)}\n", "")
     unproved = lambda why: (2, f"the sources ran: {' '.join(words)}\n", f"{notice(name, crate, why)}line 2: told\n")
     tests.expect(f"{name}: prebuilt", ran(*words), runs)
     tests.expect(f"{name}: prebuilt, --help", ran("--help")[:2], (4, "the prebuilt program ran: --help\n"))
-    touch(place.root / "crates" / crate / "src" / "main.rt", 20)
+    (place.root / "crates" / crate / "src" / "main.rt").touch()
     tests.expect(f"{name}: prebuilt, and a file of the same text is newer", ran(*words), runs)
-    touch(place.root / "crates" / crate / "src" / "main.rt", 0)
+    place.script(place.root / "crates" / crate / "out" / crate, "a program from elsewhere ran")
+    tests.expect(f"{name}: prebuilt, and a program that was not built here", ran(*words), runs)
+    shutil.rmtree(place.root / "crates" / crate / "out")
     place.toolchain.rename(place.tools / "hidden")
     tests.expect(f"{name}: prebuilt, without rt", ran(*words), runs)
     source = place.root / "crates" / "recovery_base" / "src" / "time.rt"
@@ -303,8 +369,60 @@ def prebuilt(place, name, crate):
     source.write_bytes(text)
     program.write_bytes(program.read_bytes() + b"#")
     tests.expect(f"{name}: a changed program", ran(*words), unproved(f"prebuilt/{tree.TARGET}/bin/{name} is not the file that SHA256SUMS lists"))
-    shutil.rmtree(at.parent)
+    shutil.rmtree(place.root / "prebuilt")
     tests.expect(f"{name}: no longer prebuilt", ran(*words), unproved("not proved yet"))
+
+
+def git(place, *words):
+    """Has git work in a folder, without the settings of this machine."""
+    own = {"GIT_CONFIG_GLOBAL": os.devnull, "GIT_CONFIG_SYSTEM": os.devnull}
+    who = ["-c", "user.name=someone", "-c", "user.email=someone@example.org", "-c", "init.defaultBranch=main"]
+    subprocess.run(["git", *who, *words], check=True, stdout=subprocess.DEVNULL, **{**place.how(**own), "cwd": place.root.parent})
+
+
+def committed(place):
+    """A build is committed with the record that fits the sources, and gets to others by a pull, a clone, an archive and a copy. Nobody runs it, and
+    nothing is made of it."""
+    name, crate = "recovery-trace", "recovery_trace"
+    place.prebuild(name)
+    home, runs = place.root, (4, "the prebuilt program ran: 7\n", "")
+    git(place, "init", "-q", str(home))
+    git(place, "-C", str(home), "add", ".")
+    git(place, "-C", str(home), "commit", "-qm", "Before")
+    git(place, "clone", "-q", str(home), "pulled")
+    place.build(crate)
+    tests.expect("a build runs where it was made", place.ran(f"./{name}", "7"), (3, "the program ran: 7\n", ""))
+    git(place, "-C", str(home), "add", "-f", f"crates/{crate}/out", "out/built")
+    git(place, "-C", str(home), "commit", "-qm", "Tidy up")
+    git(place, "-C", "pulled", "pull", "-q")
+    git(place, "clone", "-q", str(home), "cloned")
+    git(place, "-C", str(home), "archive", "-o", str(home.parent / "archive.tar"), "HEAD")
+    shutil.unpack_archive(home.parent / "archive.tar", home.parent / "unpacked")
+    shutil.copytree(home.parent / "cloned", home.parent / "copied")
+    for it in "pulled", "cloned", "unpacked", "copied":
+        place.root = home.parent / it
+        tests.expect(f"a committed build, {it}", place.ran(f"./{name}", "7"), runs)
+        rejects = (1, "", "{}: " + f"crates/{crate}/out/{crate} is committed, and a build has to be made here: git rm --cached crates/{crate}/out/{crate}\n")
+        if it != "unpacked":
+            for words in ["dist", "--sums"], ["dist", "--compare"], ["dist"], ["prove"]:
+                wanted = (*rejects[:2], rejects[2].format(words[0]))
+                tests.expect(f"{' '.join(words)}, {it}", place.ran(f"./{words[0]}", *words[1:]), wanted)
+        else:
+            wanted = (1, "", "dist: recovery_program was not built here from the sources as they are: ./prove recovery_program\n")
+            tests.expect("dist --compare, unpacked", place.ran("./dist", "--compare"), wanted)
+    place.root = home
+
+
+def without_python(place):
+    (place.tools / "python3").unlink()
+    for name in "check", "prove", "dist":
+        wanted = (1, "", f"{name}: Python 3.8 or later is missing: its command python3 is not on the PATH\n")
+        tests.expect(f"./{name} without Python", place.ran(f"./{name}"), wanted)
+    old = place.tools / "python3"
+    old.write_text('#!/bin/sh\n[ "$1" = --version ] && echo Python 3.7.3 || exit 1\n')
+    old.chmod(0o755)
+    wanted = (1, "", "check: Python 3.8 or later is needed, and python3 is Python 3.7.3\n")
+    tests.expect("./check with an older Python", place.ran("./check"), wanted)
 
 
 def nobody_reads(place):
@@ -320,7 +438,8 @@ def nobody_reads(place):
 
 def main():
     estimates()
-    for part in two_at_once, progress, interrupted, without_toolchain, not_writable:
+    minutes_left()
+    for part in two_at_once, progress, interrupted, without_toolchain, not_writable, committed, without_python:
         with tempfile.TemporaryDirectory() as folder:
             part(Place(pathlib.Path(folder).resolve()))
     with tempfile.TemporaryDirectory() as folder:

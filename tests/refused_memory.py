@@ -35,7 +35,7 @@ class Failed(Exception):
 def ran(crate, given, shim=None, number=0):
     """Status, output and errors of the program that a crate was built as, with a failure of the allocation of that number, from 1 on."""
     program = ROOT / "crates" / crate / "out" / crate
-    if not tree.is_newer(program, crate):
+    if not tree.is_built(crate, crate):
         raise tree.Unfit(f"{crate} must be built first: ./prove {crate}")
     refuses = {"LD_PRELOAD": str(shim), "REFUSED_REQUEST": str(number)} if shim else {}
     return tree.ran([program], given, text=True, env={**os.environ, **refuses})

@@ -687,12 +687,14 @@ def compiled():
     words = [at / "bin" / "rattle", "build", *tree.words_of(CRATE.name, "--crate-type", "staticlib", *tree.BASELINE)]
     words += ["--toolchain", at / "toolchain", "--backend", "llvm", "-o", LIBRARY]
     LIBRARY.parent.mkdir(exist_ok=True)
+    sources = tree.sum_of_sources(CRATE.name)
     build = subprocess.run(words, cwd=CRATE, stdin=subprocess.DEVNULL, stdout=subprocess.PIPE, stderr=subprocess.STDOUT, text=True)
     verdict = re.findall(r"^logic=proved .*$", build.stdout, re.M)
     if build.returncode or len(verdict) != 1:
         print(build.stdout, file=sys.stderr)
         return False
     VERDICT.write_text(f"{toolchain()}\n{verdict[0]}\n")
+    tree.record(CRATE.name, sources, LIBRARY.name, VERDICT.name)
     return True
 
 
@@ -702,17 +704,16 @@ def toolchain():
 
 
 def is_built():
-    """Whether the library is newer than its sources, and its verdict, by this toolchain, newer than the library."""
-    if not (LIBRARY.is_file() and VERDICT.is_file() and VERDICT.read_text().startswith(f"{toolchain()}\n")):
-        return False
-    return VERDICT.stat().st_mtime >= LIBRARY.stat().st_mtime and all(tree.is_newer(LIBRARY, it) for it in (CRATE.name, *tree.below(CRATE.name)))
+    """Whether the library and its verdict are of the sources here, and of this toolchain."""
+    made = all(tree.is_built(CRATE.name, it.name) for it in (LIBRARY, VERDICT))
+    return made and VERDICT.read_text().startswith(f"{toolchain()}\n")
 
 
 def built():
     """Whether the library is there, with its verdict. If it is not, it is proved and built, with those of its dependencies that are missing."""
     if is_built():
         return True
-    if not all(tree.is_newer(tree.rlib(it), it) for it in tree.below(CRATE.name)):
+    if not all(map(tree.is_built, tree.below(CRATE.name))):
         if subprocess.run([ROOT / "prove", CRATE.name], stdin=subprocess.DEVNULL).returncode:
             return False
     return compiled()

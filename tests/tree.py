@@ -21,6 +21,7 @@ WORKS_IN = "QUIC_RECOVERY_WORKS_IN"  # the tree that the script which started th
 SHOWN = 1000  # characters of the values that a test found and expected
 SHOWN_LINES = 60  # of the difference between two programs' answers
 __unittest = True  # tracebacks of failures leave out this file
+RLIB = "rlib/stamp"  # the file that a build of a library writes last
 BASELINE = ["--cpu", "x86-64"]  # for the static library: unlike a program, it does not check its processor
 
 
@@ -93,15 +94,27 @@ def rlib(name):
     return ROOT / "crates" / name / "out" / "rlib" / f"{name}.rlib"
 
 
-def sources(name):
-    """What is read to prove a crate."""
-    files = (it for room in ("src", "specs", "proofs") for it in (ROOT / "crates" / name / room).rglob("*"))
-    return [it for it in files if it.is_file()]
+def sum_of_sources(name, root=ROOT):
+    """One checksum of all that a crate of a tree is compiled and proved from."""
+    return asked("sum_of_sources", name, root=root)
 
 
-def is_newer(built, name):
-    """Whether what was built is newer than the sources of a crate."""
-    return built.exists() and built.stat().st_mtime > max(it.stat().st_mtime for it in sources(name))
+def record(name, sum, *files):
+    """Records that files in a crate's folder `out` were built here, from sources with this checksum."""
+    asked("record", name, sum, *(it for it in files if (ROOT / "crates" / name / "out" / it).exists()))
+
+
+def is_built(name, file=RLIB):
+    """Whether a file in a crate's folder `out` was built in this tree, from exactly the sources that are here now."""
+    return subprocess.run(words_in_launch("is_up_to_date", name, file), stdin=subprocess.DEVNULL).returncode == 0
+
+
+def reject_committed_builds():
+    """Nobody built here what the history has in the folders for builds, whatever made it."""
+    if (ROOT / ".git").exists() and shutil.which("git"):
+        found = subprocess.run(["git", "ls-files", "--", ":(glob)crates/*/out/**", ":(glob)out/**"], cwd=ROOT, stdout=subprocess.PIPE, text=True).stdout.splitlines()
+        if found:
+            raise Unfit(f"{found[0]} is committed, and a build has to be made here: git rm --cached {found[0]}")
 
 
 def below(name):
@@ -137,10 +150,15 @@ def is_toolchain_missing():
     return not shutil.which("rt")
 
 
-def asked(function, *words):
+def words_in_launch(function, *words, root=ROOT):
+    """The command that calls a function of `launch` for the crates of a tree."""
+    return ["bash", "-c", f'. "$0" && root=$1 && {function} "${{@:2}}"', ROOT / "launch", root, *words]
+
+
+def asked(function, *words, root=ROOT):
     """What a function of `launch` prints. If it fails, the exception has its error."""
-    said = subprocess.run(["bash", "-c", f'. "$0" && {function} "$@"', ROOT / "launch", *words], stdin=subprocess.DEVNULL, stdout=subprocess.PIPE,
-                          stderr=subprocess.PIPE, text=True)
+    said = subprocess.run(words_in_launch(function, *words, root=root), stdin=subprocess.DEVNULL, stdout=subprocess.PIPE, stderr=subprocess.PIPE,
+                          text=True)
     if said.returncode:
         raise Unfit(said.stderr.strip() or f"launch: {function} failed")
     return said.stdout.strip()

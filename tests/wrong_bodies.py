@@ -316,7 +316,7 @@ def try_all(crates, prefix, says_goals, tests):
         files = [it for room in ("must-fail", "wrong") for it in sorted((ROOT / "crates" / crate / room).glob(f"{prefix}*.edit"))]
         work += [(crate, it) for it in rounds(ROOT / "crates" / crate, [Edit(it) for it in files])]
     work.sort(key=lambda it: -len(it[1]))
-    missing = {it for crate, _ in work for it in tree.below(crate) if not tree.is_newer(tree.rlib(it), it)}
+    missing = {it for crate, _ in work for it in tree.below(crate) if not tree.is_built(it)}
     if missing:
         raise tree.Unfit(f"{', '.join(sorted(missing))} must be built first: ./prove CRATE")
     with ThreadPoolExecutor(tree.lanes(MEMORY_EACH)) as pool:
