@@ -16,39 +16,46 @@ VERSION := $(shell sed -n 's/^version = "\(.*\)"$$/\1/p' rust/quic-recovery/Carg
 SONAME  := libquic_recovery.so.$(basename $(VERSION))
 FROM    := prebuilt/$(TARGET)
 CRATE   := rust/quic-recovery
-LIBRARY  = $(DESTDIR)$(LIBDIR)
-CONFIG   = $(LIBRARY)/cmake/quic-recovery
 PROGRAMS = recovery-replay recovery-trace recovery-sender recovery-link recovery-pictures
-FILL     = sed -e 's|@PREFIX@|$(PREFIX)|g' -e 's|@LIBDIR@|$(LIBDIR)|g' -e 's|@INCLUDEDIR@|$(INCLUDEDIR)|g' -e 's|@VERSION@|$(VERSION)|g' -e 's|@SONAME@|$(SONAME)|g'
+
+# recipes read these from the environment, since a path may have spaces and quotes
+export PREFIX LIBDIR INCLUDEDIR VERSION SONAME FROM
+export LIBRARY  = $(DESTDIR)$(LIBDIR)
+export HEADERS  = $(DESTDIR)$(INCLUDEDIR)
+export BIN      = $(DESTDIR)$(BINDIR)
+export CONFIG   = $(LIBRARY)/cmake/quic-recovery
 
 .PHONY: all verify install uninstall package
 all: verify
 
-# each prebuilt file is the listed one, and was built from the sources here
+# each prebuilt file is a listed one, and the library was built from the sources here
 verify:
-	@test -r $(FROM)/SHA256SUMS || { echo 'make: there is no $(FROM): ./dist writes it, and needs the toolchain' >&2; exit 1; }
-	@cd $(FROM) && sha256sum --quiet --strict -c SHA256SUMS || { echo 'make: a file of $(FROM) is not the one that SHA256SUMS lists' >&2; exit 1; }
+	@test -r "$$FROM/SHA256SUMS" || { echo "make: there is no $$FROM: ./dist writes it, and needs the toolchain" >&2; exit 1; }
+	@cd "$$FROM" && sha256sum --quiet --strict -c SHA256SUMS || { echo "make: a file of $$FROM is not the one that SHA256SUMS lists" >&2; exit 1; }
+	@cd "$$FROM" && ! find . ! -type d ! -path ./SHA256SUMS -printf '%P\n' | grep -vxF "$$(sed 's/^[0-9a-f]*  //' SHA256SUMS)" >&2 || \
+		{ echo "make: SHA256SUMS lists no such file of $$FROM" >&2; exit 1; }
 	@bash -c '. ./launch && prebuilt "$$@" >/dev/null' make $(TARGET) recovery_ffi libquic_recovery.a
 
 install: verify
-	$(INSTALL) -d $(LIBRARY)/pkgconfig $(CONFIG) $(DESTDIR)$(INCLUDEDIR) $(DESTDIR)$(BINDIR)
-	$(INSTALL) -m 644 rust/c/recovery_ffi.h $(DESTDIR)$(INCLUDEDIR)/
-	$(INSTALL) -m 644 $(FROM)/libquic_recovery.a $(LIBRARY)/
-	$(INSTALL) -m 755 $(FROM)/libquic_recovery.so.$(VERSION) $(LIBRARY)/
-	ln -sf libquic_recovery.so.$(VERSION) $(LIBRARY)/$(SONAME)
-	ln -sf $(SONAME) $(LIBRARY)/libquic_recovery.so
-	$(FILL) packaging/quic-recovery.pc.in > $(LIBRARY)/pkgconfig/quic-recovery.pc
-	$(FILL) packaging/quic-recovery-static.pc.in > $(LIBRARY)/pkgconfig/quic-recovery-static.pc
-	$(FILL) packaging/quic-recovery-config.cmake.in > $(CONFIG)/quic-recovery-config.cmake
-	$(FILL) packaging/quic-recovery-config-version.cmake.in > $(CONFIG)/quic-recovery-config-version.cmake
-	chmod 644 $(LIBRARY)/pkgconfig/quic-recovery*.pc $(CONFIG)/*.cmake
-	$(INSTALL) -m 755 $(addprefix $(FROM)/bin/,$(PROGRAMS)) $(DESTDIR)$(BINDIR)/
+	$(INSTALL) -d "$$LIBRARY/pkgconfig" "$$CONFIG" "$$HEADERS" "$$BIN"
+	$(INSTALL) -m 644 rust/c/recovery_ffi.h "$$HEADERS/"
+	$(INSTALL) -m 644 "$$FROM/libquic_recovery.a" "$$LIBRARY/"
+	$(INSTALL) -m 755 "$$FROM/libquic_recovery.so.$$VERSION" "$$LIBRARY/"
+	ln -sf "libquic_recovery.so.$$VERSION" "$$LIBRARY/$$SONAME"
+	ln -sf "$$SONAME" "$$LIBRARY/libquic_recovery.so"
+	packaging/fill quic-recovery.pc > "$$LIBRARY/pkgconfig/quic-recovery.pc"
+	packaging/fill quic-recovery-static.pc > "$$LIBRARY/pkgconfig/quic-recovery-static.pc"
+	packaging/fill quic-recovery-config.cmake > "$$CONFIG/quic-recovery-config.cmake"
+	packaging/fill quic-recovery-config-version.cmake > "$$CONFIG/quic-recovery-config-version.cmake"
+	chmod 644 "$$LIBRARY"/pkgconfig/quic-recovery*.pc "$$CONFIG"/*.cmake
+	for it in $(PROGRAMS); do $(INSTALL) -m 755 "$$FROM/bin/$$it" "$$BIN/" || exit; done
 
 uninstall:
-	rm -f $(DESTDIR)$(INCLUDEDIR)/recovery_ffi.h $(LIBRARY)/libquic_recovery.a $(LIBRARY)/libquic_recovery.so.$(VERSION) $(LIBRARY)/$(SONAME)
-	rm -f $(LIBRARY)/libquic_recovery.so $(LIBRARY)/pkgconfig/quic-recovery.pc $(LIBRARY)/pkgconfig/quic-recovery-static.pc
-	rm -f $(CONFIG)/quic-recovery-config.cmake $(CONFIG)/quic-recovery-config-version.cmake $(addprefix $(DESTDIR)$(BINDIR)/,$(PROGRAMS))
-	-rmdir $(CONFIG) 2>/dev/null
+	rm -f "$$HEADERS/recovery_ffi.h" "$$LIBRARY/libquic_recovery.a" "$$LIBRARY/libquic_recovery.so.$$VERSION" "$$LIBRARY/$$SONAME"
+	rm -f "$$LIBRARY/libquic_recovery.so" "$$LIBRARY/pkgconfig/quic-recovery.pc" "$$LIBRARY/pkgconfig/quic-recovery-static.pc"
+	rm -f "$$CONFIG/quic-recovery-config.cmake" "$$CONFIG/quic-recovery-config-version.cmake"
+	for it in $(PROGRAMS); do rm -f "$$BIN/$$it"; done
+	-rmdir "$$CONFIG" 2>/dev/null
 
 package: verify
 	mkdir -p $(CRATE)/native/$(TARGET)
