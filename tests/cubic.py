@@ -4,16 +4,15 @@ seeds, and the windows at 1,000 acknowledgements in congestion avoidance are com
 whole microseconds, the distance from the plateau rounded down) they are the same to the byte. The curve is within one datagram of that with K
 to the millionth part of a nanosecond. A few rows worked by hand show what an idle period leaves.
 
-An argument is another program to try in place of the proved one."""
+`--program PATH` tests another program in place of the proved one."""
+import functools
 import json
 import random
-import sys
 from fractions import Fraction
 
 import tree
-from tree import ROOT
 
-PROGRAM = ROOT / "crates" / "recovery_trace" / "out" / "recovery_trace"
+PROGRAM = tree.built_program("recovery_trace")
 POINTS = 1000
 SEEDS = 20
 MTU = 1200
@@ -25,8 +24,6 @@ C = Fraction(4, 10)
 BETA = Fraction(7, 10)
 ALPHA = 3 * (1 - BETA) / (1 + BETA)
 CONVERGENCE = (1 + BETA) / 2
-
-tests = tree.Tests("cubic")
 
 
 def cube_root(n):
@@ -191,12 +188,10 @@ class Script:
         return self
 
 
-def windows_of(program, name, lines):
-    """The window after each line."""
-    words = [program, "--controller", "cubic", "--state", "--strict"]
-    status, text, errors = tree.ran(words, "".join(f"{line}\n" for line in lines), text=True)
-    tests.expect(f"{name}: status", (status, errors), (0, ""))
-    return [json.loads(line)["congestion_window"] for line in text.splitlines()[1::2]]
+@functools.lru_cache(maxsize=None)
+def written(seed):
+    """The script of a seed."""
+    return Script(seed).write(POINTS // SEEDS)
 
 
 # RFC 9438, 4.2 and 5.8, worked by hand: the window at the end of each script. In `ROUND`, 13,000 bytes fall to 9,100 at 101 ms, so K is
@@ -227,21 +222,34 @@ ROWS = (
 )
 
 
-def main():
-    program = sys.argv[1] if len(sys.argv) > 1 else PROGRAM
-    for name, lines, window in ROWS:
-        tests.expect(name, windows_of(program, name, lines)[-1:], [window])
-    points = 0
-    for seed in range(SEEDS):
-        script = Script(seed).write(POINTS // SEEDS)
-        points += script.points
-        states = windows_of(program, f"seed {seed}", script.lines)
-        wrong = [(line, found, wanted) for line, found, wanted in zip(script.lines, states, script.windows) if wanted not in (None, found)]
-        tests.expect(f"seed {seed}: the first window that differs, of {len(script.lines)}", (len(states), wrong[:1]), (len(script.lines), []))
-        tests.holds(f"seed {seed}: within one datagram", script.near)
-    tests.expect("points", points, POINTS)
-    tests.end()
+class Windows(tree.TestCase):
+    def windows_of(self, lines):
+        """The window after each line."""
+        words = [PROGRAM, "--controller", "cubic", "--state", "--strict"]
+        status, text, errors = tree.ran(words, "".join(f"{line}\n" for line in lines), text=True)
+        self.assertEqual((status, errors), (0, ""))
+        return [json.loads(line)["congestion_window"] for line in text.splitlines()[1::2]]
+
+    @tree.each(ROWS)
+    def test_by_hand(self, _, lines, window):
+        self.assertEqual(self.windows_of(lines)[-1:], [window])
+
+    @tree.each(range(SEEDS))
+    def test_seed(self, seed):
+        script = written(seed)
+        found = self.windows_of(script.lines)
+        self.assertEqual(len(found), len(script.lines))
+        wrong = [row for row in zip(script.lines, found, script.windows) if row[2] not in (None, row[1])]
+        self.assertEqual(wrong[:1], [], "the first line whose window differs, with the window found and the one expected")
+
+    @tree.each(range(SEEDS))
+    def test_within_one_datagram(self, seed):
+        self.assertTrue(written(seed).near)
+
+    def test_points(self):
+        self.assertEqual(sum(written(it).points for it in range(SEEDS)), POINTS)
 
 
 if __name__ == "__main__":
-    tree.ends_quietly(main)
+    PROGRAM, words = tree.other_programs(program=PROGRAM)
+    tree.main("cubic", words)

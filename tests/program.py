@@ -98,7 +98,7 @@ class Rows(tree.TestCase):
 
 
 class Arguments(tree.TestCase):
-    @tree.each((it,) for it in ACCEPTED)
+    @tree.each(ACCEPTED)
     def test_accepted(self, words):
         self.assertEqual(ran([PROGRAM, *words]), (0, ANSWER, b""))
 
@@ -118,7 +118,7 @@ class Pages(tree.TestCase):
         found = ran([PROGRAM, "--version"], stdin=subprocess.DEVNULL)
         self.assertEqual(found, (0, b"recovery-replay 0.2.0 after quinn-proto 0.11.19\n", b""))
 
-    @tree.each((it,) for it in (["--help", "1"], ["1", "--version"], ["--helpful"]))
+    @tree.each([["--help", "1"], ["1", "--version"], ["--helpful"]])
     def test_no_page(self, words):
         self.assertEqual(ran([PROGRAM, *words]), (2, b"", USAGE))
 
@@ -129,7 +129,7 @@ class Streams(tree.TestCase):
         self.addCleanup(os.close, folder)
         self.assertEqual(ran([PROGRAM], stdin=folder), (1, b"", b"replay: read failed\n"))
 
-    @tree.each((it,) for it in ([], ["--help"]))
+    @tree.each([[], ["--help"]])
     def test_failed_write(self, words):
         with open("/dev/full", "wb") as full:
             self.assertEqual(ran([PROGRAM, *words], stdout=full), (1, None, b"replay: write failed\n"))
@@ -138,7 +138,7 @@ class Streams(tree.TestCase):
         with open("/dev/full", "wb") as full:
             self.assertEqual(ran([PROGRAM], LINE + b"bad\n", stderr=full), (2, ANSWER, None))
 
-    @tree.each((it,) for it in ([], ["--help"], ["--version"]))
+    @tree.each([[], ["--help"], ["--version"]])
     def test_nobody_reads(self, words):
         with tree.unread() as pipe:
             self.assertEqual(ran([PROGRAM, *words], stdout=pipe), (0, None, b""))

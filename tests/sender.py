@@ -114,7 +114,7 @@ class Arguments(tree.TestCase):
 
 
 class Streams(tree.TestCase):
-    @tree.each((it,) for it in (["server"], ["--help"], ["--version"]))
+    @tree.each([["server"], ["--help"], ["--version"]])
     def test_failed_write(self, words):
         with open("/dev/full", "wb") as full:
             self.assertEqual(tree.ran([PROGRAM, *words], GOOD.encode(), stdout=full), (1, None, b"sender: write failed\n"))
@@ -130,5 +130,5 @@ class Streams(tree.TestCase):
 
 
 if __name__ == "__main__":
-    PROGRAM, words = tree.other_program(PROGRAM)
+    PROGRAM, words = tree.other_programs(program=PROGRAM)
     tree.main("sender", words)

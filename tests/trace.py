@@ -193,7 +193,7 @@ class Arguments(tree.TestCase):
 
 
 class Streams(tree.TestCase):
-    @tree.each((it,) for it in ([], ["--qlog"], ["--help"], ["--version"]))
+    @tree.each([[], ["--qlog"], ["--help"], ["--version"]])
     def test_failed_write(self, words):
         with open("/dev/full", "wb") as full:
             self.assertEqual(tree.ran([PROGRAM, *words], GOOD.encode(), stdout=full), (1, None, b"recovery-trace: write failed\n"))
@@ -212,7 +212,7 @@ class Streams(tree.TestCase):
             run.stdin.write(f"{GOOD}\n".encode() * 2)
             self.assertEqual((run.wait(), run.stderr.read()), (0, b""))
 
-    @tree.each((it,) for it in ([], ["--state"], ["--qlog"], ["--help"], ["--version"]))
+    @tree.each([[], ["--state"], ["--qlog"], ["--help"], ["--version"]])
     def test_nobody_reads(self, words):
         with tree.unread() as pipe:
             self.assertEqual(tree.ran([PROGRAM, *words], GOOD.encode(), stdout=pipe), (0, None, b""))
@@ -264,5 +264,5 @@ class Memory(tree.TestCase):
 
 
 if __name__ == "__main__":
-    PROGRAM, words = tree.other_program(PROGRAM)
+    PROGRAM, words = tree.other_programs(program=PROGRAM)
     tree.main("trace", words)

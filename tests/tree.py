@@ -331,15 +331,15 @@ class TestCase(unittest.TestCase):
 
 
 class each:
-    """Makes of a test method one test for each row, whose values are its arguments. Its name ends with the title, a format of the row, and `-k` finds
-    a test by any part of its name. In a class of tests:
+    """Makes of a test method one test for each row: a tuple of arguments, or one argument. Its name ends with the title, a format of the row, and `-k`
+    finds a test by any part of its name. In a class of tests:
 
         @tree.each([("one", 1), ("two", 2)])
         def test_number(self, title, number):
     """
 
     def __init__(self, rows, title="{0}"):
-        self.rows, self.title = rows, title
+        self.rows, self.title = [row if isinstance(row, tuple) else (row,) for row in rows], title
 
     def __call__(self, method):
         self.method = method
@@ -411,12 +411,13 @@ def unread():
         os.close(writer)
 
 
-def other_program(usual):
-    """The program to test, which `--program PATH` names in place of the usual one, and the other arguments, for `main`."""
+def other_programs(**usual):
+    """The programs to test, each of which an option with its name may replace, and last the other arguments, for `main`."""
     parser = argparse.ArgumentParser(add_help=False)
-    parser.add_argument("--program", type=lambda it: pathlib.Path(it).resolve(), default=usual)
+    for name, program in usual.items():
+        parser.add_argument(f"--{name}", type=lambda it: pathlib.Path(it).resolve(), default=program)
     given, words = parser.parse_known_args()
-    return given.program, words
+    return (*vars(given).values(), words)
 
 
 def ran(words, given=None, **how):
