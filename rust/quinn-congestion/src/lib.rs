@@ -69,6 +69,10 @@ pub struct NewReno {
     counted: u64,
 }
 
+/// The most bytes that a copy counts by acknowledging them. While windows are below it, a copy is exact, and windows are
+/// those of quinn's own NewReno. A larger window grows by one datagram at most as this many bytes are acknowledged.
+const EXACT: u64 = 1 << 24;
+
 /// Returns a recovery for its controller alone, with datagrams of this size.
 fn recovery_for(congestion: Congestion, max_datagram_size: u16) -> Recovery {
     let settings = RecoveryConfig {
@@ -228,27 +232,44 @@ impl NewReno {
     }
 
     /// Returns a controller in the same state, reached by events: losses, the bytes counted between them, and what was
-    /// acknowledged since.
+    /// acknowledged since. An event takes at most 65,535 bytes, so at most [`EXACT`] bytes are copied in that way: a
+    /// larger count is cut, and a restart that has grown further continues in congestion avoidance.
     fn copy(&self) -> Self {
         if self.ssthresh == u64::MAX {
             return NewReno::new(self.config, self.epoch, self.window);
         }
-        let restarts = self.window < self.ssthresh;
-        let threshold = self.window.max(if restarts { self.ssthresh } else { 0 });
-        let mut high = threshold.saturating_mul(2);
-        while high <= self.counted {
-            high = high.saturating_mul(2);
+        let least = 2 * u64::from(self.config.max_datagram_size);
+        let grown = self.window.saturating_sub(least);
+        let restarts = self.window < self.ssthresh && grown <= EXACT;
+        let threshold = if restarts { self.ssthresh } else { self.window };
+        let mut copy = self.counting(threshold.saturating_mul(2), self.counted.min(EXACT));
+        let one = Moment::from_nanos(1);
+        copy.congested(self.since, one, restarts, 0);
+        if restarts {
+            let later = Moment::from_nanos(self.since.as_nanos().saturating_add(1));
+            copy.acked_all(later, self.window - copy.window);
         }
+        copy
+    }
+
+    /// Returns a controller with this window that has counted these bytes since it last grew: they are acknowledged
+    /// while the window is larger than they are, and losses then halve it. A window above 2^63 is in slow start and has
+    /// counted none, which makes no difference before it is acknowledged.
+    fn counting(&self, window: u64, counted: u64) -> Self {
         let (zero, one) = (Moment::from_nanos(0), Moment::from_nanos(1));
-        let mut copy = NewReno::new(self.config, self.epoch, high.saturating_mul(2));
+        let mut high = window;
+        while high <= counted {
+            high *= 2;
+        }
+        let Some(initial) = high.checked_mul(2) else {
+            return NewReno::new(self.config, self.epoch, high);
+        };
+        let mut copy = NewReno::new(self.config, self.epoch, initial);
         copy.congested(zero, one, false, 0);
-        copy.acked_all(one, self.counted);
-        while copy.window > threshold.saturating_mul(2) {
+        copy.acked_all(one, counted);
+        while copy.window > window {
             copy.congested(zero, one, false, 0);
         }
-        copy.congested(self.since, one, restarts, 0);
-        let later = Moment::from_nanos(self.since.as_nanos().saturating_add(1));
-        copy.acked_all(later, self.window - copy.window);
         copy
     }
 }
@@ -304,5 +325,105 @@ impl Controller for NewReno {
 
     fn into_any(self: Box<Self>) -> Box<dyn Any> {
         self
+    }
+}
+
+#[cfg(test)]
+mod tests {
+    use super::*;
+
+    fn at(millis: u64) -> Moment {
+        Moment::from_nanos(millis * 1_000_000)
+    }
+
+    /// Returns a controller with this initial window, after a loss at 101 ms, or a persistent congestion.
+    fn fallen(initial_window: u64, persistent: bool) -> NewReno {
+        let config = NewRenoConfig {
+            initial_window,
+            ..NewRenoConfig::default()
+        };
+        let mut controller = NewReno::new(config, Instant::now(), initial_window);
+        controller.congested(at(101), at(1), persistent, 1200);
+        controller
+    }
+
+    /// Returns how many packets were passed to make a copy.
+    fn steps(copy: &NewReno) -> u64 {
+        let next = copy.alone.recovery.next_packet_number(SpaceId::Data);
+        next.expect("the space is not discarded")
+    }
+
+    /// Acknowledges datagrams of 1200 bytes in both, with losses and persistent congestion, and compares the windows.
+    fn continue_alike(controller: &mut NewReno, copy: &mut NewReno, packets: u64) {
+        assert_eq!(copy.window, controller.window);
+        for packet in 1..=packets {
+            let (now, sent) = (at(1000 + 100 * packet), at(990 + 100 * packet));
+            for it in [&mut *controller, &mut *copy] {
+                match packet % 500 {
+                    0 => it.congested(now, sent, packet % 1000 == 0, 1200),
+                    _ => it.acked(now, sent, 1200, packet % 7 == 0),
+                }
+            }
+            assert_eq!(copy.window, controller.window, "packet {packet}");
+        }
+    }
+
+    #[test]
+    fn a_copy_continues_alike() {
+        for (window, persistent) in [
+            (12_000, false),
+            (12_000, true),
+            (3 << 20, false),
+            (3 << 20, true),
+        ] {
+            let mut controller = fallen(window, persistent);
+            for already in [0, 1, 300, 4000] {
+                for packet in 0..already {
+                    controller.acked(at(200 + packet / 1000), at(199), 1200, false);
+                }
+                continue_alike(&mut controller.copy(), &mut controller.copy(), 1);
+                let mut copy = controller.copy();
+                continue_alike(&mut controller, &mut copy, 2000);
+            }
+        }
+    }
+
+    /// A loss halves a window (RFC 9002, 7.3.2), and the copy's is the same, whatever the setting was.
+    #[test]
+    fn a_copy_takes_bounded_work() {
+        for bits in [20, 40, 61, 62, 63, 64] {
+            let initial = u64::MAX >> (64 - bits);
+            let mut controller = fallen(initial, false);
+            assert_eq!(controller.window, initial / 2);
+            controller.acked_all(at(200), 3 * EXACT / 2);
+            let mut copy = controller.copy();
+            assert_eq!(copy.window, controller.window, "2^{bits}");
+            assert!(steps(&copy) <= EXACT / 65_535 + 1);
+            for it in [&mut controller, &mut copy] {
+                it.congested(at(400), at(300), false, 1200);
+            }
+            assert_eq!(copy.window, controller.window, "2^{bits}");
+        }
+    }
+
+    /// After persistent congestion the window is the minimum, and slow start leads back (RFC 9002, 7.6.2). A copy that
+    /// would have to acknowledge more than 2^24 bytes has the same window, and grows no faster.
+    #[test]
+    fn a_copy_of_a_long_restart_takes_bounded_work() {
+        for (grown, is_exact) in [(EXACT / 2, true), (2 * EXACT, false)] {
+            let mut controller = fallen(u64::MAX, true);
+            assert_eq!(controller.window, 2400);
+            controller.acked_all(at(200), grown);
+            assert_eq!(controller.window, 2400 + grown);
+            let mut copy = controller.copy();
+            assert_eq!(copy.window, controller.window);
+            assert!(steps(&copy) <= EXACT / 65_535 + 1);
+            for it in [&mut controller, &mut copy] {
+                it.acked(at(400), at(300), 1200, false);
+            }
+            assert_eq!(controller.window, 2400 + grown + 1200);
+            assert_eq!(copy.window == controller.window, is_exact);
+            assert!(copy.window <= controller.window);
+        }
     }
 }
