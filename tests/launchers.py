@@ -23,6 +23,7 @@ from tree import ROOT
 tests = tree.Tests("launchers")
 LAUNCHERS = {name: crate for crate, name in tree.LAUNCHERS.items()}
 TOOLS = "awk bash cat dirname env find git grep head mkdir mktemp readlink rm sh sha256sum sleep sort stat touch xargs".split()
+TOOLS = [it for it in TOOLS if it != "git" or shutil.which("git")]  # only the tests of commits need it
 MISSING = f"the Rattle toolchain is missing: its command rt ({tree.logic()}) is not on the PATH\n"
 SECONDS = 300  # by which all that is waited for has happened
 
@@ -383,6 +384,9 @@ def git(place, *words):
 def committed(place):
     """A build is committed with the record that fits the sources, and gets to others by a pull, a clone, an archive and a copy. Nobody runs it, and
     nothing is made of it."""
+    if not shutil.which("git"):
+        print("launchers: the tests of committed builds are skipped: git is not on the PATH", file=sys.stderr)
+        return
     name, crate = "recovery-trace", "recovery_trace"
     place.prebuild(name)
     home, runs = place.root, (4, "the prebuilt program ran: 7\n", "")
