@@ -212,7 +212,7 @@ def run_transfer():
     """A transfer with the library and without, and of quinn as it is with the proved controller alone; the tests of the
     controller's crate too."""
     status, said = cargo(AS_IT_IS, "test", "-p", "quinn-congestion", "--release")
-    tests.holds("cargo test of quinn-congestion", status == 0 and "1 passed" in said, said[-4000:])
+    tests.holds("cargo test of quinn-congestion", status == 0 and "4 passed" in said, said[-4000:])
     how = {"cwd": ROOT / "rust" / "quinn-congestion", "stdin": subprocess.DEVNULL, "text": True}
     tests.holds("cargo fmt of quinn-congestion", tree.ran(["cargo", "fmt", "--check"], **how)[0] == 0)
     for which, *words, what in TRANSFERS:

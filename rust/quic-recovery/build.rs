@@ -1,5 +1,5 @@
 //! Finds the proved library. Only linking needs it: `cargo check`, `cargo doc` and an IDE do without, and a warning names what
-//! is missing.
+//! is missing. Cargo hides warnings of dependencies that are no path, so the linker names the reason too.
 //!
 //! If `QUIC_RECOVERY_LIB` names a folder, the library is looked for there and nowhere else. In the repository it is the
 //! prebuilt archive, if that was built from exactly the sources there, or else the one that `tests/rust.py --library` has
@@ -21,6 +21,10 @@ const LAYOUT: &str = "recovery_ffi_layout_";
 
 /// What the toolchain writes into each object before the logic that it was proved with.
 const MARK: &[u8] = b"rattle logic=";
+
+/// A library that does not exist. If the proved library is missing, a program links with this one instead: the linker then
+/// fails with this name first, also where cargo shows no warning.
+const MISSING: &str = "quic_recovery_has_no_library_for_this_build_see_docs_INSTALL";
 
 /// The one target that a library is built for.
 const TARGET: &str = "x86_64-unknown-linux-gnu";
@@ -186,6 +190,7 @@ fn main() {
     let said = find().map_or_else(
         |why| {
             println!("cargo::warning=no program links: {why}; or name a folder with {WHOLE} by QUIC_RECOVERY_LIB");
+            println!("cargo::rustc-link-lib={MISSING}");
             "without its library".to_owned()
         },
         |archives| link(&archives),
