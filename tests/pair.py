@@ -5,20 +5,19 @@ some that are not proved. Honest endpoints reject no ACK of each other. What is 
 item is lost, and none is sent more often than its losses and probes account for. The amplification limit and the window hold, and no endpoint is
 stuck. At the end the network delivers, and all items arrive.
 
-    tests/pair.py                  with seeds 0 to 59
-    tests/pair.py 1000 1099        with others
-    tests/pair.py --program PATH   another program in place of the proved one"""
+    tests/pair.py                     with seeds 0 to 59
+    tests/pair.py --seeds 1000 1099   with others
+    tests/pair.py --program PATH      another program in place of the proved one"""
 import argparse
 import collections
+import functools
 import itertools
-import os
 import pathlib
 import random
 import re
 import subprocess
-import sys
 import tempfile
-from concurrent.futures import ThreadPoolExecutor
+import unittest
 
 import tree
 from tree import ROOT
@@ -29,7 +28,17 @@ SIZE, SECOND = 1200, 10**9
 STEPS, ROUNDS = 300, 60
 FOREVER = 10**15  # nanoseconds: longer than any probe timeout
 
-tests = tree.Tests("pair")
+
+def given():
+    """The options of this script, and the arguments that are left for unittest."""
+    parser = argparse.ArgumentParser(add_help=False)
+    parser.add_argument("--program", type=lambda it: pathlib.Path(it).resolve(), default=tree.built_program("recovery_link"))
+    parser.add_argument("--seeds", nargs=2, type=int, default=[0, 59])
+    return parser.parse_known_args()
+
+
+OPTIONS, WORDS = given()
+PROGRAM, SEEDS = OPTIONS.program, range(OPTIONS.seeds[0], OPTIONS.seeds[1] + 1)
 
 
 class Falsified(Exception):
@@ -231,10 +240,10 @@ def stepped(world, line, answer):
 class Run:
     """A program that answers step by step."""
 
-    def __init__(self, program, words=()):
+    def __init__(self, words=()):
         pipes = {"stdin": subprocess.PIPE, "stdout": subprocess.PIPE, "text": True, "bufsize": 1}
         self.world, self.lines, self.now = World(), [], 0
-        self.process = subprocess.Popen([program, "schedule=/dev/stdin", *words], **pipes)
+        self.process = subprocess.Popen([PROGRAM, "schedule=/dev/stdin", *words], **pipes)
 
     def step(self, line):
         self.lines.append(line)
@@ -302,10 +311,11 @@ def waiting(run):
             holds("an endpoint with bytes in flight is not stuck", run.step(f"expire {end} {run.now + FOREVER}").split()[0] in ("lost", "probe"))
 
 
-def played(program, seed):
-    """A random run from this seed: which statement failed, if one did."""
+@functools.lru_cache(maxsize=None)
+def played(seed):
+    """The status of a random run from this seed, and which statement failed, if one did."""
     draw = random.Random(seed)
-    run, spaces = Run(program, draw.choice(([], ["controller=cubic"]))), draw.choice((SPACES, ("data",), ("data",)))
+    run, spaces = Run(draw.choice(([], ["controller=cubic"]))), draw.choice((SPACES, ("data",), ("data",)))
     try:
         for line in ESTABLISHED if spaces == ("data",) else []:
             run.step(line)
@@ -316,20 +326,25 @@ def played(program, seed):
         return run.end(), None
     except Falsified as why:
         run.process.kill()
-        return 0, f"{why}\n" + "\n".join(run.lines)
+        run.end()
+        return None, f"{why}\n" + "\n".join(run.lines)
 
 
 MOVES = ["hand client data 1", "hand server data 2", "send client data {} 1200", "send server data {} 1200", "arrive 0 {}", "arrive 1 {}",
          "expire client {}", "late server {}"]
+ALL_MOVES = list(itertools.product(MOVES, repeat=4))
 
 
-def short(program, moves):
-    """All that happens in a few steps, each three seconds after the one before."""
+def answered(schedule, *words):
+    """What the program does with a schedule on its standard input."""
+    return tree.ran([PROGRAM, "schedule=/dev/stdin", *words], schedule, text=True)
+
+
+@functools.lru_cache(maxsize=None)
+def short(moves):
+    """All that happens in a few steps, each three seconds after the one before: which statement failed, if one did."""
     lines = [*ESTABLISHED, *(it.format(3 * SECOND * at) for at, it in enumerate(moves))]
-    with tempfile.NamedTemporaryFile("w") as file:
-        file.write("\n".join(lines))
-        file.flush()
-        status, answers, errors = tree.ran([program, f"schedule={file.name}"], text=True, input="")
+    status, answers, errors = answered("\n".join(lines))
     world = World()
     try:
         holds(f"status 0 and an answer for each step: {errors}", status == 0 and len(answers.splitlines()) == len(lines))
@@ -348,50 +363,57 @@ BAD = {  # a schedule, and the error about its line that cannot be read
 }
 
 
-def rows(program):
-    """tests/schedules: steps and their answers, worked out by the RFCs as their comments say."""
-    files = sorted((ROOT / "tests" / "schedules").glob("*.txt"))
-    for file in files:
+class Runs(tree.TestCase):
+    @tree.each(SEEDS)
+    def test_seed(self, seed):
+        status, why = played(seed)
+        self.assertEqual(status, 0, why)
+
+    @tree.each(ALL_MOVES, "{0}, {1}, {2}, {3}")
+    def test_moves(self, *moves):
+        if why := short(moves):
+            self.fail(why)
+
+
+@unittest.skipIf(len(SEEDS) < 60, "few seeds need not check every statement")
+class Statements(tree.TestCase):
+    @classmethod
+    def setUpClass(cls):
+        for run, given in [*((played, it) for it in SEEDS), *((short, it) for it in ALL_MOVES)]:
+            run(given)
+
+    @tree.each(statements())
+    def test_checked(self, what):
+        self.assertGreater(CHECKED[what], 0)
+
+
+class Schedules(tree.TestCase):
+    @tree.each((it.name, it) for it in sorted((ROOT / "tests" / "schedules").glob("*.txt")))
+    def test_row(self, _, file):
+        """Steps and their answers, worked out by the RFCs as the comments of the file say."""
         steps, answers = zip(*(it.split(" => ") for it in file.read_text().splitlines() if not it.startswith("#")))
-        said = tree.ran([program, "schedule=/dev/stdin"], text=True, input="\n".join(steps))
-        tests.expect(file.stem, said, (0, "".join(f"{it}\n" for it in answers), ""))
-    tests.holds("there are rows", files)
+        schedule = "\n".join(steps)
+        self.assertAnswers(schedule, answered(schedule), (0, "".join(f"{it}\n" for it in answers), ""))
 
+    def test_example(self):
+        """The example, by RFC 9002 as its comments say."""
+        schedule, answers = (ROOT / "examples" / f"lost-flight.{it}" for it in ("schedule", "out"))
+        found = tree.ran([PROGRAM, f"schedule={schedule}"], "", text=True)
+        self.assertAnswers(schedule.read_text(), found, (0, answers.read_text(), ""))
 
-def texts(program):
-    """The example, by RFC 9002 as its comments say, and what cannot be read."""
-    script, answers = (ROOT / "examples" / f"lost-flight.{it}" for it in ("schedule", "out"))
-    expect = tests.expect
-    expect("the example", tree.ran([program, f"schedule={script}"], text=True, input=""), (0, answers.read_text(), ""))
-    for lines, told in BAD.items():
-        status, _, errors = tree.ran([program, "schedule=/dev/stdin"], text=True, input=lines)
-        expect(repr(lines), (status, errors), (2, f"{told}\n"))
-    status, _, errors = tree.ran([program, f"schedule={script}", "rate=1M"], text=True, input="")
-    told = 'link: cannot read "rate=1M": with a schedule there is only controller=, as in controller=cubic\n'
-    expect("another argument", (status, errors), (2, told))
-    expect("no such file", tree.ran([program, f"schedule={script}.none"], text=True, input=""), (1, "", "link: read failed\n"))
+    @tree.each(BAD.items(), "{0!r}")
+    def test_bad(self, lines, error):
+        status, _, errors = answered(lines)
+        self.assertEqual((status, errors), (2, f"{error}\n"))
 
+    def test_another_argument(self):
+        error = 'link: cannot read "rate=1M": with a schedule there is only controller=, as in controller=cubic\n'
+        self.assertEqual(answered("", "rate=1M"), (2, "", error))
 
-def main():
-    parser = argparse.ArgumentParser(description=__doc__, formatter_class=argparse.RawDescriptionHelpFormatter)
-    parser.add_argument("--program", default=ROOT / "crates" / "recovery_link" / "out" / "recovery_link")
-    parser.add_argument("seeds", nargs="*", type=int, default=[0, 59])
-    given = parser.parse_args()
-    rows(given.program)
-    texts(given.program)
-    with ThreadPoolExecutor(len(os.sched_getaffinity(0))) as pool:
-        seeds = range(given.seeds[0], given.seeds[-1] + 1)
-        for seed, (status, why) in zip(seeds, pool.map(lambda it: played(given.program, it), seeds)):
-            tests.holds(f"seed {seed}", status == 0 and not why, why or f"status {status}")
-        all_moves = list(itertools.product(MOVES, repeat=4))
-        for why in pool.map(lambda it: short(given.program, it), all_moves):
-            tests.passed += not why
-            if why:
-                tests.holds("a short schedule", False, why)
-    for what in statements() if len(seeds) >= 60 else []:  # few seeds need not meet every case
-        tests.holds(f"{what}: checked at least once", CHECKED[what])
-    tests.end()
+    def test_no_such_file(self):
+        found = tree.ran([PROGRAM, f"schedule={ROOT / 'examples' / 'no.schedule'}"], "", text=True)
+        self.assertEqual(found, (1, "", "link: read failed\n"))
 
 
 if __name__ == "__main__":
-    main()
+    tree.main("pair", WORDS)

@@ -332,7 +332,7 @@ class TestCase(unittest.TestCase):
 
 class each:
     """Makes of a test method one test for each row: a tuple of arguments, or one argument. Its name ends with the title, a format of the row, and `-k`
-    finds a test by any part of its name. In a class of tests:
+    finds a test by any part of its name. Other decorators of the method follow this one. In a class of tests:
 
         @tree.each([("one", 1), ("two", 2)])
         def test_number(self, title, number):
@@ -346,6 +346,8 @@ class each:
         return self
 
     def __set_name__(self, owner, name):
+        if not self.rows:
+            raise ValueError(f"{owner.__name__}.{name} has no rows")
         delattr(owner, name)
         for row in self.rows:
             self.add(owner, f"{name} {self.title.format(*row)}", row)
