@@ -57,8 +57,9 @@ uninstall:
 	for it in $(PROGRAMS); do rm -f "$$BIN/$$it"; done
 	-rmdir "$$CONFIG" 2>/dev/null
 
+# cargo takes the files that are copied here, which git ignores, for changes that are not committed: so --allow-dirty
 package: verify
 	mkdir -p $(CRATE)/native/$(TARGET)
 	cp $(FROM)/libquic_recovery.a $(FROM)/PROVED $(CRATE)/native/$(TARGET)/
 	cp LICENSE-APACHE LICENSE-MIT NOTICE $(CRATE)/
-	cd $(CRATE) && $(CARGO) package $(CARGOFLAGS)
+	cd $(CRATE) && $(CARGO) package --allow-dirty $(CARGOFLAGS)
