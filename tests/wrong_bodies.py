@@ -18,6 +18,7 @@ The files have the toolchain's format: its rt must-fail tries those of must-fail
 '# fn: ..') names the function as a check prints it. Without this line it is the function that has the text. The crate's dependencies must be built
 (./prove NAME)."""
 import argparse
+import collections
 import copy
 import pathlib
 import re
@@ -309,8 +310,8 @@ def show(text):
     print(f"wrong bodies: {text}", file=sys.stderr, flush=True)
 
 
-def try_all(crates, prefix, says_goals, tests):
-    """Tries those of these crates whose names begin with a prefix, the longest checks first."""
+def try_all(crates, prefix, says_goals):
+    """Tries those of these crates whose names begin with a prefix, the longest checks first. Returns how many were rejected, and how many not."""
     work = []
     for crate in crates:
         files = [it for room in ("must-fail", "wrong") for it in sorted((ROOT / "crates" / crate / room).glob(f"{prefix}*.edit"))]
@@ -319,12 +320,16 @@ def try_all(crates, prefix, says_goals, tests):
     missing = {it for crate, _ in work for it in tree.below(crate) if not tree.is_built(it)}
     if missing:
         raise tree.Unfit(f"{', '.join(sorted(missing))} must be built first: ./prove CRATE")
+    counts = collections.Counter()
     with ThreadPoolExecutor(tree.lanes(MEMORY_EACH)) as pool:
         for (crate, _), found in zip(work, pool.map(lambda it: try_round(*it), work)):
             for edit, goals, why in found:
-                tests.holds(f"{crate}: {edit.name}", goals, why)
+                counts[bool(goals)] += 1
+                if not goals:
+                    show(f"{crate}: {edit.name} failed\n{why}")
                 if says_goals:
                     print(f"{crate}: {edit.name}: {', '.join(goals) or 'not rejected'}", flush=True)
+    return counts[True], counts[False]
 
 
 def main():
@@ -334,15 +339,15 @@ def main():
     parser.add_argument("name", nargs="?", default="", help="the beginning of a wrong body's name")
     given = tree.arguments(parser)
     tree.stop_on_signals()
-    tests = tree.Tests("wrong bodies")
     try:
         with tree.alone("tests/wrong_bodies.py", show):
-            try_all([given.crate] if given.crate else tree.crates(), given.name, given.goals, tests)
+            passed, failed = try_all([given.crate] if given.crate else tree.crates(), given.name, given.goals)
     except tree.Unfit as why:
         sys.exit(f"wrong bodies: {why}")
     except KeyboardInterrupt:
         sys.exit("wrong bodies: broken off")
-    tests.end()
+    print(f"wrong bodies: {passed} passed, {failed} failed")
+    sys.exit(failed > 0)
 
 
 if __name__ == "__main__":
