@@ -76,12 +76,12 @@ int main(void) {
     struct recovery_settings settings = recovery_ffi_default_settings();
     struct recovery_address remote = {.octets = {192, 0, 2, 1}, .port = 4433};
     uint8_t id[8] = {255, 255, 255, 255, 255, 255, 255, 255};
-    if (recovery_ffi_sender_established(&sender, false, &settings, &remote, id, sizeof id, 0) != RECOVERY_NEW_MADE) {
+    if (recovery_ffi_sender_established(&sender, false, &settings, &remote, id, sizeof id, 1000) != RECOVERY_NEW_MADE) {
         printf("no sender was made\n");
         return 1;
     }
     for (uint64_t number = 0; number < 4; number++) {
-        uint64_t now = number * 1000000, item = number + 1;
+        uint64_t item = number + 1, now = item * 1000000;
         tell(&sender, recovery_ffi_send(&sender, space, now, 1000, true, false, 0, &item, 1));
     }
     // With a smaller initial RTT the timer expires sooner (RFC 9002, 6.2.2).
@@ -94,17 +94,17 @@ int main(void) {
     struct recovery_ack_range ranges[1] = {{.first = 3, .last = 3}};
     frame.is_limited = true;
     frame.packets_room = 2;
-    struct recovery_encoded_reply needed = recovery_ffi_sender_ack(&sender, space, 103000000, &frame, ranges, 1);
+    struct recovery_encoded_reply needed = recovery_ffi_sender_ack(&sender, space, 104000000, &frame, ranges, 1);
     if (needed.kind == RECOVERY_ANSWER_NEEDS_ROOM) {
         printf("room is needed for %" PRIu64 " words and %" PRIu64 " numbers\n", needed.first, needed.second);
         frame.packets_room = needed.first;
         frame.lost_room = needed.second;
     }
-    tell(&sender, recovery_ffi_sender_ack(&sender, space, 103000000, &frame, ranges, 1));
+    tell(&sender, recovery_ffi_sender_ack(&sender, space, 104000000, &frame, ranges, 1));
     printf("%" PRIu64 " packets are tracked\n", recovery_ffi_tracked(&sender, space).packets);
-    tell(&sender, recovery_ffi_sender_on_timeout(&sender, 113499999));
-    tell(&sender, recovery_ffi_sender_on_timeout(&sender, 113500000));
+    tell(&sender, recovery_ffi_sender_on_timeout(&sender, 114499999));
     tell(&sender, recovery_ffi_sender_on_timeout(&sender, 114500000));
+    tell(&sender, recovery_ffi_sender_on_timeout(&sender, 115500000));
     if (recovery_ffi_take_pending(&sender, space).kind == RECOVERY_ANSWER_QUEUE) {
         uint64_t taken[8];
         size_t count = recovery_ffi_last_items(&sender, taken, 8);

@@ -20,10 +20,10 @@ fn timer(sender: &Sender) -> String {
 
 fn main() -> Result<(), Box<dyn Error>> {
     let config = RecoveryConfig::new("192.0.2.1:4433".parse()?, ConnectionId::from([7; 8]));
-    let mut sender = Sender::established(Side::Client, &config, at(0))?;
+    let mut sender = Sender::established(Side::Client, &config, at(1000))?;
 
     for item in 1..=4 {
-        let now = at((item - 1) * 1000);
+        let now = at(item * 1000);
         if sender.transmit(now, SIZE, SPACE, true)? == Transmission::Transmitted {
             let sent = sender.send(SPACE, now, SIZE, true, None, &[item])?;
             println!("packet {} carries item {item}", sent.number);
@@ -31,14 +31,15 @@ fn main() -> Result<(), Box<dyn Error>> {
     }
     println!("timer: {}", timer(&sender));
 
-    let acked = sender.on_ack(SPACE, at(103_000), &Ack::default(), &[(3, 3)])?;
+    let acked = sender.on_ack(SPACE, at(104_000), &Ack::default(), &[(3, 3)])?;
     for (number, items) in acked.packets() {
         println!("packet {number} is acknowledged with items {items:?}");
     }
     println!("lost: {:?}", acked.losses.numbers);
+    println!("window: {}", sender.recovery().window_and_flight().0);
     println!("timer: {}", timer(&sender));
 
-    for now in [113_499, 113_500, 114_500] {
+    for now in [114_499, 114_500, 115_500] {
         match sender.on_timeout(at(now))? {
             Timeout::Lost { losses, .. } => println!("lost: {:?}", losses.numbers),
             other => println!("{other:?}"),

@@ -10,7 +10,7 @@ use std::time::Duration;
 ///
 /// ```
 /// # use quic_recovery::*;
-/// # let at = |secs: u64| Instant::from_nanos(secs * 1_000_000_000);
+/// # let at = |secs: u64| Instant::from_nanos(1 + secs * 1_000_000_000);
 /// let mut mtu = MtuDiscovery::new(&TransportConfig::default(), None)?;
 /// let mut number = 0;
 /// while mtu.poll_transmit(at(0), number).is_some() {
@@ -86,7 +86,7 @@ impl Default for CubicConfig {
 ///
 /// ```
 /// # use quic_recovery::*;
-/// # let at = |millis: u64| Instant::from_nanos(millis * 1_000_000);
+/// # let at = |millis: u64| Instant::from_nanos(1 + millis * 1_000_000);
 /// # let (mut config, space) = (RecoveryConfig::default(), SpaceId::Data);
 /// config.transport.congestion = Congestion::NewReno(NewRenoConfig::default());
 /// let mut sender = Sender::established(Side::Client, &config, at(0))?;
@@ -120,7 +120,7 @@ impl Default for Congestion {
 ///
 /// ```
 /// # use quic_recovery::*;
-/// # let at = |millis: u64| Instant::from_nanos(millis * 1_000_000);
+/// # let at = |millis: u64| Instant::from_nanos(1 + millis * 1_000_000);
 /// # use std::time::Duration;
 /// let mut config = RecoveryConfig::default();
 /// config.transport.initial_rtt = Duration::from_millis(50);
@@ -151,7 +151,7 @@ pub struct TransportConfig {
     ///
     /// ```
     /// # use quic_recovery::*;
-    /// # let at = |millis: u64| Instant::from_nanos(millis * 1_000_000);
+    /// # let at = |millis: u64| Instant::from_nanos(1 + millis * 1_000_000);
     /// # let (mut config, space) = (RecoveryConfig::default(), SpaceId::Data);
     /// config.transport.packet_threshold = 4;
     /// let mut sender = Sender::established(Side::Client, &config, at(0))?;
@@ -170,7 +170,7 @@ pub struct TransportConfig {
     ///
     /// ```
     /// # use quic_recovery::*;
-    /// # let at = |millis: u64| Instant::from_nanos(millis * 1_000_000);
+    /// # let at = |millis: u64| Instant::from_nanos(1 + millis * 1_000_000);
     /// # let (mut config, space) = (RecoveryConfig::default(), SpaceId::Data);
     /// config.transport.time_threshold = (5, 4);
     /// let mut sender = Sender::established(Side::Client, &config, at(0))?;
@@ -209,7 +209,7 @@ impl Default for TransportConfig {
 ///
 /// ```
 /// # use quic_recovery::*;
-/// # let at = |millis: u64| Instant::from_nanos(millis * 1_000_000);
+/// # let at = |millis: u64| Instant::from_nanos(1 + millis * 1_000_000);
 /// # let (mut config, space) = (RecoveryConfig::default(), SpaceId::Data);
 /// config.skips = Skips::Starting(1, 7);
 /// let mut sender = Sender::established(Side::Client, &config, at(0))?;
@@ -234,7 +234,7 @@ pub enum Skips {
 ///
 /// ```
 /// # use quic_recovery::*;
-/// # let at = |millis: u64| Instant::from_nanos(millis * 1_000_000);
+/// # let at = |millis: u64| Instant::from_nanos(1 + millis * 1_000_000);
 /// # use std::time::Duration;
 /// let config = RecoveryConfig {
 ///     max_ack_delay: Duration::from_millis(10),

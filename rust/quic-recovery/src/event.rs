@@ -17,7 +17,7 @@ use std::time::Duration;
 ///
 /// ```
 /// # use quic_recovery::*;
-/// # let (space, now) = (SpaceId::Data, Instant::from_nanos(0));
+/// # let (space, now) = (SpaceId::Data, Instant::from_nanos(1));
 /// # let mut recovery = Recovery::new(&RecoveryConfig::default(), now)?;
 /// let packet = Event::Received { space, now, number: 0, ack_eliciting: true };
 /// assert!(matches!(recovery.apply(packet)?, Answer::New { .. }));
@@ -313,7 +313,7 @@ pub enum Event<'a> {
 ///
 /// ```
 /// # use quic_recovery::*;
-/// # let (space, now) = (SpaceId::Data, Instant::from_nanos(0));
+/// # let (space, now) = (SpaceId::Data, Instant::from_nanos(1));
 /// # let mut recovery = Recovery::new(&RecoveryConfig::default(), now)?;
 /// let (size, ack_eliciting, largest_acked, queue) = (1200, true, None, &[7]);
 /// let sent = Event::Send { space, now, size, ack_eliciting, largest_acked, queue };
@@ -446,7 +446,7 @@ impl fmt::Display for EcnFault {
 ///
 /// ```
 /// # use quic_recovery::*;
-/// # let now = Instant::from_nanos(0);
+/// # let now = Instant::from_nanos(1);
 /// # let mut recovery = Recovery::new(&RecoveryConfig::default(), now)?;
 /// let space = SpaceId::Initial;
 /// let acked = Event::Acked { space, now, number: 9, app_limited: false };

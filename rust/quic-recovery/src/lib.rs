@@ -12,7 +12,8 @@
 //! ```
 //! use quic_recovery::{Ack, Instant, RecoveryConfig, Sender, Side, SpaceId, Transmission};
 //!
-//! let at = |millis: u64| Instant::from_nanos(millis * 1_000_000);
+//! // a clock that starts above 0: a packet that is sent at 0 does not change the window
+//! let at = |millis: u64| Instant::from_nanos(1 + millis * 1_000_000);
 //! let space = SpaceId::Data;
 //! let mut sender = Sender::established(Side::Client, &RecoveryConfig::default(), at(0))?;
 //! for item in 0..4 {
@@ -30,7 +31,7 @@
 //! ```
 //! use quic_recovery::{Answer, Event, Instant, Recovery, RecoveryConfig, SpaceId};
 //!
-//! let (space, now) = (SpaceId::Data, Instant::from_nanos(0));
+//! let (space, now) = (SpaceId::Data, Instant::from_nanos(1));
 //! let mut recovery = Recovery::new(&RecoveryConfig::default(), now)?;
 //! let (size, ack_eliciting, largest_acked, queue) = (1200, true, None, &[7, 8]);
 //! let sent = recovery.apply(Event::Send { space, now, size, ack_eliciting, largest_acked, queue })?;

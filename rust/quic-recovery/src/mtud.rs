@@ -28,7 +28,7 @@ impl Error for InvalidArgument {}
 /// ```
 /// # use quic_recovery::*;
 /// let mut mtu = MtuDiscovery::new(&TransportConfig::default(), None)?;
-/// let (now, mut number) = (Instant::from_nanos(0), 0);
+/// let (now, mut number) = (Instant::from_nanos(1), 0);
 /// while let Some(size) = mtu.poll_transmit(now, number) {
 ///     if size <= 1400 {
 ///         assert!(mtu.on_acked(number, size));
@@ -142,7 +142,7 @@ impl MtuDiscovery {
     /// ```
     /// # use quic_recovery::*;
     /// # let mut mtu = MtuDiscovery::new(&TransportConfig::default(), None)?;
-    /// # let now = Instant::from_nanos(0);
+    /// # let now = Instant::from_nanos(1);
     /// mtu.on_peer_max_udp_payload_size_received(1300)?;
     /// // the peer does not process larger datagrams (RFC 9000, 18.2)
     /// let size = mtu.poll_transmit(now, 0).expect("a search begins at the first poll");
@@ -186,7 +186,7 @@ impl MtuDiscovery {
     /// ```
     /// # use quic_recovery::*;
     /// # let mut mtu = MtuDiscovery::new(&TransportConfig::default(), None)?;
-    /// # let now = Instant::from_nanos(0);
+    /// # let now = Instant::from_nanos(1);
     /// // a probe is acknowledged, and then the path no longer carries packets of its size
     /// let size = mtu.poll_transmit(now, 0).expect("a search begins at the first poll");
     /// mtu.on_acked(0, size);

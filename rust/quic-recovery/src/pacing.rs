@@ -13,7 +13,7 @@ use std::time::Duration;
 /// ```
 /// # use quic_recovery::*;
 /// # use std::time::Duration;
-/// let (rtt, start) = (Duration::from_millis(333), Instant::from_nanos(0));
+/// let (rtt, start) = (Duration::from_millis(333), Instant::from_nanos(1));
 /// let mut pacer = Pacer::new(rtt, 12_000, 1200, start)?;
 /// for _ in 0..10 {
 ///     assert_eq!(pacer.delay(rtt, 1200, 1200, 12_000, start)?, None);

@@ -13,7 +13,7 @@ use std::io::{self, Write};
 /// ```
 /// use quic_recovery::{Ack, Instant, Qlog, RecoveryConfig, Sender, Side, SpaceId};
 ///
-/// let at = |millis: u64| Instant::from_nanos(millis * 1_000_000);
+/// let at = |millis: u64| Instant::from_nanos(1 + millis * 1_000_000);
 /// let space = SpaceId::Data;
 /// let mut sender = Sender::established(Side::Client, &RecoveryConfig::default(), at(0))?;
 /// let mut qlog = Qlog::new(Vec::new(), Side::Client, "a connection")?;

@@ -101,7 +101,7 @@ pub struct IdStats {
 /// ```
 /// use quic_recovery::*;
 ///
-/// let at = |millis: u64| Instant::from_nanos(millis * 1_000_000);
+/// let at = |millis: u64| Instant::from_nanos(1 + millis * 1_000_000);
 /// let space = SpaceId::Data;
 /// let mut recovery = Recovery::new(&RecoveryConfig::default(), at(0))?;
 /// let packet = Event::Received { space, now: at(3), number: 0, ack_eliciting: true };
@@ -322,7 +322,7 @@ impl Recovery {
     ///
     /// ```
     /// # use quic_recovery::*;
-    /// # let at = |millis: u64| Instant::from_nanos(millis * 1_000_000);
+    /// # let at = |millis: u64| Instant::from_nanos(1 + millis * 1_000_000);
     /// # let config = RecoveryConfig::default();
     /// let recovery = Recovery::new(&config, at(0))?;
     /// // the initial window, with nothing in flight (RFC 9002, 7.2)
@@ -390,7 +390,7 @@ impl Recovery {
     ///
     /// ```
     /// # use quic_recovery::*;
-    /// # let at = |millis: u64| Instant::from_nanos(millis * 1_000_000);
+    /// # let at = |millis: u64| Instant::from_nanos(1 + millis * 1_000_000);
     /// # let space = SpaceId::Data;
     /// # let mut recovery = Recovery::new(&RecoveryConfig::default(), at(0))?;
     /// let (size, ack_eliciting, largest_acked, queue) = (1200, true, None, &[7]);
@@ -542,7 +542,7 @@ impl Recovery {
     ///
     /// ```
     /// # use quic_recovery::*;
-    /// # let at = |millis: u64| Instant::from_nanos(millis * 1_000_000);
+    /// # let at = |millis: u64| Instant::from_nanos(1 + millis * 1_000_000);
     /// # let space = SpaceId::Data;
     /// # let mut recovery = Recovery::new(&RecoveryConfig::default(), at(0))?;
     /// let (id, reset_token) = (ConnectionId::from([1; 8]), ResetToken::from([2; 16]));
@@ -573,7 +573,7 @@ impl Recovery {
     ///
     /// ```
     /// # use quic_recovery::*;
-    /// # let at = |millis: u64| Instant::from_nanos(millis * 1_000_000);
+    /// # let at = |millis: u64| Instant::from_nanos(1 + millis * 1_000_000);
     /// # let space = SpaceId::Data;
     /// # let mut recovery = Recovery::new(&RecoveryConfig::default(), at(0))?;
     /// let (path, bytes) = (PathName::Current, 1200);
@@ -619,7 +619,7 @@ impl Recovery {
     ///
     /// ```
     /// # use quic_recovery::*;
-    /// # let at = |millis: u64| Instant::from_nanos(millis * 1_000_000);
+    /// # let at = |millis: u64| Instant::from_nanos(1 + millis * 1_000_000);
     /// # let space = SpaceId::Data;
     /// # let mut recovery = Recovery::new(&RecoveryConfig::default(), at(0))?;
     /// let (size, ack_eliciting, largest_acked, queue) = (1000, true, None, &[7]);
@@ -641,7 +641,7 @@ impl Recovery {
     /// ```
     /// # use std::time::Duration;
     /// # use quic_recovery::*;
-    /// # let at = |millis: u64| Instant::from_nanos(millis * 1_000_000);
+    /// # let at = |millis: u64| Instant::from_nanos(1 + millis * 1_000_000);
     /// # let space = SpaceId::Data;
     /// # let mut recovery = Recovery::new(&RecoveryConfig::default(), at(0))?;
     /// for millis in [100, 60] {
@@ -663,7 +663,7 @@ impl Recovery {
     /// ```
     /// # use std::time::Duration;
     /// # use quic_recovery::*;
-    /// # let at = |millis: u64| Instant::from_nanos(millis * 1_000_000);
+    /// # let at = |millis: u64| Instant::from_nanos(1 + millis * 1_000_000);
     /// # let space = SpaceId::Data;
     /// # let mut recovery = Recovery::new(&RecoveryConfig::default(), at(0))?;
     /// let rtt = Duration::from_millis(100);
@@ -689,7 +689,7 @@ impl Recovery {
     ///
     /// ```
     /// # use quic_recovery::*;
-    /// # let at = |millis: u64| Instant::from_nanos(millis * 1_000_000);
+    /// # let at = |millis: u64| Instant::from_nanos(1 + millis * 1_000_000);
     /// # let space = SpaceId::Data;
     /// # let mut recovery = Recovery::new(&RecoveryConfig::default(), at(0))?;
     /// let (now, largest_acked, queue) = (at(0), None, &[]);
@@ -710,7 +710,7 @@ impl Recovery {
     ///
     /// ```
     /// # use quic_recovery::*;
-    /// # let at = |millis: u64| Instant::from_nanos(millis * 1_000_000);
+    /// # let at = |millis: u64| Instant::from_nanos(1 + millis * 1_000_000);
     /// # let space = SpaceId::Data;
     /// # let mut recovery = Recovery::new(&RecoveryConfig::default(), at(0))?;
     /// recovery.apply(Event::Received { space, now: at(0), number: 0, ack_eliciting: true })?;
@@ -741,7 +741,7 @@ impl Recovery {
     ///
     /// ```
     /// # use quic_recovery::*;
-    /// # let at = |millis: u64| Instant::from_nanos(millis * 1_000_000);
+    /// # let at = |millis: u64| Instant::from_nanos(1 + millis * 1_000_000);
     /// # let space = SpaceId::Data;
     /// # let mut recovery = Recovery::new(&RecoveryConfig::default(), at(0))?;
     /// // each space begins with 0 (RFC 9000, 12.3)
@@ -761,7 +761,7 @@ impl Recovery {
     /// ```
     /// # use std::time::Duration;
     /// # use quic_recovery::*;
-    /// # let at = |millis: u64| Instant::from_nanos(millis * 1_000_000);
+    /// # let at = |millis: u64| Instant::from_nanos(1 + millis * 1_000_000);
     /// # let space = SpaceId::Data;
     /// # let mut recovery = Recovery::new(&RecoveryConfig::default(), at(0))?;
     /// recovery.apply(Event::Received { space, now: at(5), number: 0, ack_eliciting: true })?;
@@ -780,7 +780,7 @@ impl Recovery {
     ///
     /// ```
     /// # use quic_recovery::*;
-    /// # let at = |millis: u64| Instant::from_nanos(millis * 1_000_000);
+    /// # let at = |millis: u64| Instant::from_nanos(1 + millis * 1_000_000);
     /// # let space = SpaceId::Data;
     /// # let mut recovery = Recovery::new(&RecoveryConfig::default(), at(0))?;
     /// for number in [0, 1, 5] {
@@ -802,7 +802,7 @@ impl Recovery {
     ///
     /// ```
     /// # use quic_recovery::*;
-    /// # let at = |millis: u64| Instant::from_nanos(millis * 1_000_000);
+    /// # let at = |millis: u64| Instant::from_nanos(1 + millis * 1_000_000);
     /// # let space = SpaceId::Data;
     /// # let mut recovery = Recovery::new(&RecoveryConfig::default(), at(0))?;
     /// // the idle timeout restarts if a packet is received (RFC 9000, 10.1)
@@ -827,7 +827,7 @@ impl Recovery {
     /// ```
     /// # use std::time::Duration;
     /// # use quic_recovery::*;
-    /// # let at = |millis: u64| Instant::from_nanos(millis * 1_000_000);
+    /// # let at = |millis: u64| Instant::from_nanos(1 + millis * 1_000_000);
     /// # let config = RecoveryConfig::default();
     /// let lifetime = Duration::from_secs(10);
     /// let config = RecoveryConfig { cid_lifetime: Some(lifetime), issued: 1, ..config };
@@ -862,7 +862,7 @@ impl Recovery {
     ///
     /// ```
     /// # use quic_recovery::*;
-    /// # let at = |millis: u64| Instant::from_nanos(millis * 1_000_000);
+    /// # let at = |millis: u64| Instant::from_nanos(1 + millis * 1_000_000);
     /// # let space = SpaceId::Data;
     /// # let mut recovery = Recovery::new(&RecoveryConfig::default(), at(0))?;
     /// let path = PathName::Current;
@@ -894,7 +894,7 @@ impl Recovery {
     /// ```
     /// # use std::time::Duration;
     /// # use quic_recovery::*;
-    /// # let at = |millis: u64| Instant::from_nanos(millis * 1_000_000);
+    /// # let at = |millis: u64| Instant::from_nanos(1 + millis * 1_000_000);
     /// # let space = SpaceId::Data;
     /// # let mut recovery = Recovery::new(&RecoveryConfig::default(), at(0))?;
     /// let id = IssuedCid::new(1, ConnectionId::from([9; 8]), ResetToken::from([3; 16]));

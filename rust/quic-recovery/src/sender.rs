@@ -52,7 +52,7 @@ impl Error for SenderError {}
 ///
 /// ```
 /// # use quic_recovery::*;
-/// # let at = |millis: u64| Instant::from_nanos(millis * 1_000_000);
+/// # let at = |millis: u64| Instant::from_nanos(1 + millis * 1_000_000);
 /// # let (mut config, space) = (RecoveryConfig::default(), SpaceId::Data);
 /// config.transport.congestion = Congestion::Fixed(120_000);
 /// let mut sender = Sender::established(Side::Client, &config, at(0))?;
@@ -60,7 +60,7 @@ impl Error for SenderError {}
 ///     assert_eq!(sender.transmit(at(0), 1200, space, true)?, Transmission::Transmitted);
 /// }
 /// // ten datagrams take this long at 5/4 of the window in each RTT of 333 ms (RFC 9002, 7.7)
-/// let until = Instant::from_nanos(26_640_000);
+/// let until = at(0) + std::time::Duration::from_micros(26_640);
 /// assert_eq!(sender.transmit(at(0), 1200, space, true)?, Transmission::Delayed(until));
 /// assert_eq!(sender.transmit(until, 1200, space, true)?, Transmission::Transmitted);
 /// # Ok::<(), Box<dyn std::error::Error>>(())
@@ -100,7 +100,7 @@ pub struct MtuProbe {
 /// ```
 /// # use std::time::Duration;
 /// # use quic_recovery::*;
-/// # let at = |millis: u64| Instant::from_nanos(millis * 1_000_000);
+/// # let at = |millis: u64| Instant::from_nanos(1 + millis * 1_000_000);
 /// # let space = SpaceId::Data;
 /// # let mut sender = Sender::established(Side::Client, &RecoveryConfig::default(), at(0))?;
 /// sender.send(space, at(1), 1200, true, None, &[])?;
@@ -140,7 +140,7 @@ pub enum EcnOutcome {
 ///
 /// ```
 /// # use quic_recovery::*;
-/// # let at = |millis: u64| Instant::from_nanos(millis * 1_000_000);
+/// # let at = |millis: u64| Instant::from_nanos(1 + millis * 1_000_000);
 /// # let space = SpaceId::Data;
 /// # let mut sender = Sender::established(Side::Client, &RecoveryConfig::default(), at(0))?;
 /// sender.send(space, at(1), 1200, true, None, &[])?;
@@ -337,7 +337,7 @@ pub enum TimerState {
 /// ```
 /// use quic_recovery::*;
 ///
-/// let at = |millis: u64| Instant::from_nanos(millis * 1_000_000);
+/// let at = |millis: u64| Instant::from_nanos(1 + millis * 1_000_000);
 /// let space = SpaceId::Data;
 /// let mut sender = Sender::established(Side::Client, &RecoveryConfig::default(), at(0))?;
 /// // an ack-eliciting packet is outstanding: the probe timeout runs (RFC 9002, A.8)
@@ -422,12 +422,13 @@ fn expect(kind: u8, reply: &ffi::EncodedReply) -> Result<(), SenderError> {
 
 impl Sender {
     /// Returns a sender without any event, made at time `now`. The first path of a client is validated, whatever the
-    /// settings say (RFC 9000, 8.1). If `now` is 0, a packet that is sent at 0 does not change the window (RFC 9002,
-    /// B.3 and B.5): let the clock start earlier. Fails if the configuration is invalid, or allocation fails.
+    /// settings say (RFC 9000, 8.1). Let the clock start above 0: a packet that is sent at 0 counts as sent before the
+    /// start of the recovery period, so that its ACK or loss does not change the window (RFC 9002, B.3 and B.5). Fails
+    /// if the configuration is invalid, or allocation fails.
     ///
     /// ```
     /// # use quic_recovery::*;
-    /// # let at = |millis: u64| Instant::from_nanos(millis * 1_000_000);
+    /// # let at = |millis: u64| Instant::from_nanos(1 + millis * 1_000_000);
     /// # let config = RecoveryConfig::default();
     /// let mut server = Sender::new(Side::Server, &config, at(0))?;
     /// // an unvalidated client gets at most three times the bytes received from it (RFC 9000, 8.1)
@@ -453,7 +454,7 @@ impl Sender {
     ///
     /// ```
     /// # use quic_recovery::*;
-    /// # let at = |millis: u64| Instant::from_nanos(millis * 1_000_000);
+    /// # let at = |millis: u64| Instant::from_nanos(1 + millis * 1_000_000);
     /// # let config = RecoveryConfig::default();
     /// let mut server = Sender::established(Side::Server, &config, at(0))?;
     /// assert_eq!(server.transmit(at(0), 1200, SpaceId::Data, true)?, Transmission::Transmitted);
@@ -479,7 +480,7 @@ impl Sender {
     /// ```
     /// # use std::time::Duration;
     /// # use quic_recovery::*;
-    /// # let at = |millis: u64| Instant::from_nanos(millis * 1_000_000);
+    /// # let at = |millis: u64| Instant::from_nanos(1 + millis * 1_000_000);
     /// # let space = SpaceId::Data;
     /// # let mut sender = Sender::established(Side::Client, &RecoveryConfig::default(), at(0))?;
     /// sender.send(space, at(0), 1200, true, None, &[7])?;
@@ -497,7 +498,7 @@ impl Sender {
     ///
     /// ```
     /// # use quic_recovery::*;
-    /// # let at = |millis: u64| Instant::from_nanos(millis * 1_000_000);
+    /// # let at = |millis: u64| Instant::from_nanos(1 + millis * 1_000_000);
     /// # let space = SpaceId::Data;
     /// # let mut sender = Sender::established(Side::Client, &RecoveryConfig::default(), at(0))?;
     /// sender.send(space, at(5), 1200, true, None, &[7])?;
@@ -513,7 +514,7 @@ impl Sender {
     ///
     /// ```
     /// # use quic_recovery::*;
-    /// # let at = |millis: u64| Instant::from_nanos(millis * 1_000_000);
+    /// # let at = |millis: u64| Instant::from_nanos(1 + millis * 1_000_000);
     /// # let config = RecoveryConfig::default();
     /// let mut server = Sender::new(Side::Server, &config, at(0))?;
     /// server.on_datagram(1200)?;
@@ -548,7 +549,7 @@ impl Sender {
     ///
     /// ```
     /// # use quic_recovery::*;
-    /// # let at = |millis: u64| Instant::from_nanos(millis * 1_000_000);
+    /// # let at = |millis: u64| Instant::from_nanos(1 + millis * 1_000_000);
     /// # let space = SpaceId::Data;
     /// # let mut sender = Sender::established(Side::Client, &RecoveryConfig::default(), at(0))?;
     /// // ten datagrams of 1200 bytes (RFC 9002, 7.2)
@@ -566,7 +567,7 @@ impl Sender {
     ///
     /// ```
     /// # use quic_recovery::*;
-    /// # let at = |millis: u64| Instant::from_nanos(millis * 1_000_000);
+    /// # let at = |millis: u64| Instant::from_nanos(1 + millis * 1_000_000);
     /// # let space = SpaceId::Data;
     /// # let mut sender = Sender::established(Side::Client, &RecoveryConfig::default(), at(0))?;
     /// // a burst of ten datagrams of 1200 bytes
@@ -587,7 +588,7 @@ impl Sender {
     ///
     /// ```
     /// # use quic_recovery::*;
-    /// # let at = |millis: u64| Instant::from_nanos(millis * 1_000_000);
+    /// # let at = |millis: u64| Instant::from_nanos(1 + millis * 1_000_000);
     /// # let config = RecoveryConfig::default();
     /// let mut server = Sender::new(Side::Server, &config, at(0))?;
     /// server.on_datagram(1200)?;
@@ -609,7 +610,7 @@ impl Sender {
     ///
     /// ```
     /// # use quic_recovery::*;
-    /// # let at = |millis: u64| Instant::from_nanos(millis * 1_000_000);
+    /// # let at = |millis: u64| Instant::from_nanos(1 + millis * 1_000_000);
     /// # let space = SpaceId::Data;
     /// # let mut sender = Sender::established(Side::Client, &RecoveryConfig::default(), at(0))?;
     /// for item in 0..3 {
@@ -636,7 +637,7 @@ impl Sender {
     ///
     /// ```
     /// # use quic_recovery::*;
-    /// # let at = |millis: u64| Instant::from_nanos(millis * 1_000_000);
+    /// # let at = |millis: u64| Instant::from_nanos(1 + millis * 1_000_000);
     /// # let space = SpaceId::Data;
     /// # let mut sender = Sender::established(Side::Client, &RecoveryConfig::default(), at(0))?;
     /// sender.send(space, at(0), 1200, true, None, &[7])?;
@@ -660,7 +661,7 @@ impl Sender {
     ///
     /// ```
     /// # use quic_recovery::*;
-    /// # let at = |millis: u64| Instant::from_nanos(millis * 1_000_000);
+    /// # let at = |millis: u64| Instant::from_nanos(1 + millis * 1_000_000);
     /// # let space = SpaceId::Data;
     /// # let mut sender = Sender::established(Side::Client, &RecoveryConfig::default(), at(0))?;
     /// for item in 0..10 {
@@ -704,7 +705,7 @@ impl Sender {
     ///
     /// ```
     /// # use quic_recovery::*;
-    /// # let at = |millis: u64| Instant::from_nanos(millis * 1_000_000);
+    /// # let at = |millis: u64| Instant::from_nanos(1 + millis * 1_000_000);
     /// # let space = SpaceId::Data;
     /// # let mut sender = Sender::established(Side::Client, &RecoveryConfig::default(), at(0))?;
     /// // items 7 and 8 stand for the frames of this packet
@@ -748,7 +749,7 @@ impl Sender {
     ///
     /// ```
     /// # use quic_recovery::*;
-    /// # let at = |millis: u64| Instant::from_nanos(millis * 1_000_000);
+    /// # let at = |millis: u64| Instant::from_nanos(1 + millis * 1_000_000);
     /// # let space = SpaceId::Data;
     /// # let mut sender = Sender::established(Side::Client, &RecoveryConfig::default(), at(0))?;
     /// let probe = sender.poll_mtu(at(0))?.expect("a search begins at the first poll");
@@ -779,7 +780,7 @@ impl Sender {
     ///
     /// ```
     /// # use quic_recovery::*;
-    /// # let at = |millis: u64| Instant::from_nanos(millis * 1_000_000);
+    /// # let at = |millis: u64| Instant::from_nanos(1 + millis * 1_000_000);
     /// let mut config = RecoveryConfig::default();
     /// config.transport.mtu_discovery_config = None;
     /// let mut sender = Sender::established(Side::Client, &config, at(0))?;
@@ -805,7 +806,7 @@ impl Sender {
     ///
     /// ```
     /// # use quic_recovery::*;
-    /// # let at = |millis: u64| Instant::from_nanos(millis * 1_000_000);
+    /// # let at = |millis: u64| Instant::from_nanos(1 + millis * 1_000_000);
     /// # let space = SpaceId::Data;
     /// # let mut sender = Sender::established(Side::Client, &RecoveryConfig::default(), at(0))?;
     /// for item in [70, 71, 72, 73] {
@@ -844,7 +845,7 @@ impl Sender {
     ///
     /// ```
     /// # use quic_recovery::*;
-    /// # let at = |millis: u64| Instant::from_nanos(millis * 1_000_000);
+    /// # let at = |millis: u64| Instant::from_nanos(1 + millis * 1_000_000);
     /// # let space = SpaceId::Data;
     /// # let mut sender = Sender::established(Side::Client, &RecoveryConfig::default(), at(0))?;
     /// let mut acked = Acknowledged::default();
@@ -953,7 +954,7 @@ impl Sender {
     ///
     /// ```
     /// # use quic_recovery::*;
-    /// # let at = |millis: u64| Instant::from_nanos(millis * 1_000_000);
+    /// # let at = |millis: u64| Instant::from_nanos(1 + millis * 1_000_000);
     /// # let space = SpaceId::Data;
     /// # let mut sender = Sender::established(Side::Client, &RecoveryConfig::default(), at(0))?;
     /// for item in 0..2 {
@@ -1004,9 +1005,13 @@ impl Sender {
     /// contents of another packet. If there are no items, send a PING frame. `immediate_ack` asks for an IMMEDIATE_ACK
     /// frame in the probe.
     ///
+    /// There may be more items than one packet holds, and the sender no longer has any of them. Pass to [`Sender::send`]
+    /// those that the packet carries. Put the others into the second probe, then into the next packets that
+    /// [`Sender::transmit`] permits.
+    ///
     /// ```
     /// # use quic_recovery::*;
-    /// # let at = |millis: u64| Instant::from_nanos(millis * 1_000_000);
+    /// # let at = |millis: u64| Instant::from_nanos(1 + millis * 1_000_000);
     /// # let space = SpaceId::Data;
     /// # let mut sender = Sender::established(Side::Client, &RecoveryConfig::default(), at(0))?;
     /// for item in [7, 8] {
@@ -1042,7 +1047,7 @@ impl Sender {
     ///
     /// ```
     /// # use quic_recovery::*;
-    /// # let at = |millis: u64| Instant::from_nanos(millis * 1_000_000);
+    /// # let at = |millis: u64| Instant::from_nanos(1 + millis * 1_000_000);
     /// # let config = RecoveryConfig::default();
     /// let (mut server, space) = (Sender::new(Side::Server, &config, at(0))?, SpaceId::Initial);
     /// assert_eq!(server.transmit(at(0), 1200, space, true)?, Transmission::Blocked);
@@ -1064,7 +1069,7 @@ impl Sender {
     ///
     /// ```
     /// # use quic_recovery::*;
-    /// # let at = |millis: u64| Instant::from_nanos(millis * 1_000_000);
+    /// # let at = |millis: u64| Instant::from_nanos(1 + millis * 1_000_000);
     /// # let config = RecoveryConfig::default();
     /// let (mut client, space) = (Sender::new(Side::Client, &config, at(0))?, SpaceId::Initial);
     /// client.send(space, at(0), 1200, true, None, &[7])?;
@@ -1086,7 +1091,7 @@ impl Sender {
     ///
     /// ```
     /// # use quic_recovery::*;
-    /// # let at = |millis: u64| Instant::from_nanos(millis * 1_000_000);
+    /// # let at = |millis: u64| Instant::from_nanos(1 + millis * 1_000_000);
     /// # let config = RecoveryConfig::default();
     /// let (mut server, space) = (Sender::new(Side::Server, &config, at(0))?, SpaceId::Data);
     /// server.on_address_validated();
@@ -1109,7 +1114,7 @@ impl Sender {
     ///
     /// ```
     /// # use quic_recovery::*;
-    /// # let at = |millis: u64| Instant::from_nanos(millis * 1_000_000);
+    /// # let at = |millis: u64| Instant::from_nanos(1 + millis * 1_000_000);
     /// # let config = RecoveryConfig::default();
     /// let mut server = Sender::new(Side::Server, &config, at(0))?;
     /// assert_eq!(server.transmit(at(0), 1200, SpaceId::Initial, true)?, Transmission::Blocked);
@@ -1128,7 +1133,7 @@ impl Sender {
     /// ```
     /// # use std::time::Duration;
     /// # use quic_recovery::*;
-    /// # let at = |millis: u64| Instant::from_nanos(millis * 1_000_000);
+    /// # let at = |millis: u64| Instant::from_nanos(1 + millis * 1_000_000);
     /// # let space = SpaceId::Data;
     /// # let mut sender = Sender::established(Side::Client, &RecoveryConfig::default(), at(0))?;
     /// sender.set_peer_max_ack_delay(Duration::from_millis(60));
@@ -1151,7 +1156,7 @@ impl Sender {
     /// ```
     /// # use std::time::Duration;
     /// # use quic_recovery::*;
-    /// # let at = |millis: u64| Instant::from_nanos(millis * 1_000_000);
+    /// # let at = |millis: u64| Instant::from_nanos(1 + millis * 1_000_000);
     /// # let space = SpaceId::Data;
     /// # let mut sender = Sender::established(Side::Client, &RecoveryConfig::default(), at(0))?;
     /// sender.set_initial_rtt(Duration::from_millis(100));
@@ -1172,7 +1177,7 @@ impl Sender {
     ///
     /// ```
     /// # use quic_recovery::*;
-    /// # let at = |millis: u64| Instant::from_nanos(millis * 1_000_000);
+    /// # let at = |millis: u64| Instant::from_nanos(1 + millis * 1_000_000);
     /// # let space = SpaceId::Data;
     /// # let mut sender = Sender::established(Side::Client, &RecoveryConfig::default(), at(0))?;
     /// for (challenge, window) in [(Some(7), 12_000), (None, 13_200)] {
@@ -1196,7 +1201,7 @@ impl Sender {
     ///
     /// ```
     /// # use quic_recovery::*;
-    /// # let at = |millis: u64| Instant::from_nanos(millis * 1_000_000);
+    /// # let at = |millis: u64| Instant::from_nanos(1 + millis * 1_000_000);
     /// # let config = RecoveryConfig::default();
     /// let (mut client, space) = (Sender::new(Side::Client, &config, at(0))?, SpaceId::Initial);
     /// client.send(space, at(0), 1200, true, None, &[7])?;
@@ -1224,7 +1229,7 @@ impl Sender {
     ///
     /// ```
     /// # use quic_recovery::*;
-    /// # let at = |millis: u64| Instant::from_nanos(millis * 1_000_000);
+    /// # let at = |millis: u64| Instant::from_nanos(1 + millis * 1_000_000);
     /// # let config = RecoveryConfig::default();
     /// let (mut client, space) = (Sender::new(Side::Client, &config, at(0))?, SpaceId::Initial);
     /// for item in [7, 8] {
@@ -1265,7 +1270,7 @@ impl Sender {
     ///
     /// ```
     /// # use quic_recovery::*;
-    /// # let at = |millis: u64| Instant::from_nanos(millis * 1_000_000);
+    /// # let at = |millis: u64| Instant::from_nanos(1 + millis * 1_000_000);
     /// # let space = SpaceId::Data;
     /// # let mut sender = Sender::established(Side::Client, &RecoveryConfig::default(), at(0))?;
     /// let packet = Event::Received { space, now: at(5), number: 0, ack_eliciting: true };

@@ -46,13 +46,14 @@ pub enum PathName {
 /// ```
 /// # use quic_recovery::*;
 /// # use std::time::Duration;
-/// // the times of a stack, from a start of its own
+/// // the times of a stack, from a start of its own; it is above 0, since a packet that is sent at 0 does not change the
+/// // congestion window
 /// let start = std::time::Instant::now();
-/// let now = |it: std::time::Instant| Instant::from_nanos(0) + (it - start);
+/// let now = |it: std::time::Instant| Instant::from_nanos(1) + (it - start);
 /// let later = now(start + Duration::from_millis(5));
-/// assert_eq!(later, Instant::from_nanos(5_000_000));
+/// assert_eq!(later, Instant::from_nanos(5_000_001));
 /// // how long to wait for a timer that is due at 7 ms
-/// assert_eq!(Instant::from_nanos(7_000_000) - later, Duration::from_millis(2));
+/// assert_eq!(Instant::from_nanos(7_000_001) - later, Duration::from_millis(2));
 /// # Ok::<(), Box<dyn std::error::Error>>(())
 /// ```
 #[derive(Clone, Copy, Debug, PartialEq, Eq, PartialOrd, Ord, Hash)]
