@@ -59,7 +59,7 @@ class System:
 
     def ran(self, command, given=""):
         """Status and output of a command in the clone."""
-        inside = ["chroot", self.root, "env", "-i", f"PATH={PATH}", "HOME=/root", "bash", "-c", f'cd "/$0" && {command}', HOME]
+        inside = ["chroot", self.root, "env", "-i", f"PATH={PATH}", "HOME=/root", "bash", "-c", f'cd "/$0" && {command}\nexit $?', HOME]  # a shell stays, to reap
         words = ["unshare", "--mount", "--pid", "--fork", f"--mount-proc={self.root / 'proc'}", *inside]
         run = subprocess.run(words, input=given, stdout=subprocess.PIPE, stderr=subprocess.STDOUT, text=True, errors="replace")
         return run.returncode, run.stdout

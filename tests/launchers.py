@@ -4,8 +4,8 @@ any build: two at once, an interrupt, no toolchain, no Python, a read-only tree,
 elsewhere, committed, of other sources, or prebuilt; answers that are too long, a pipe that nobody reads, and the time that ./prove
 expects."""
 import contextlib
+import copy
 import hashlib
-import importlib
 import os
 import pathlib
 import re
@@ -15,12 +15,14 @@ import subprocess
 import sys
 import tempfile
 import time
+import unittest
+from unittest import mock
 
 import check
+import prove
 import tree
 from tree import ROOT
 
-tests = tree.Tests("launchers")
 LAUNCHERS = {name: crate for crate, name in tree.LAUNCHERS.items()}
 TOOLS = "awk bash cat dirname env find git grep head mkdir mktemp readlink rm sh sha256sum sleep sort stat touch xargs".split()
 TOOLS = [it for it in TOOLS if it != "git" or shutil.which("git")]  # only the tests of commits need it
@@ -34,8 +36,8 @@ version) echo "a kit $SAID_LOGIC" ;;
 lib | run)
     grep -q "^${PWD##*/}[ :]" ../../crates.txt || exit 1
     sleep 0.1
-    mkdir -p out/rlib
-    touch out/rlib/stamp
+    mkdir -p "out/rlib/${PWD##*/}.rlib"
+    touch "out/rlib/${PWD##*/}.rlib/format"
     [ ! -f src/main.rt ] || touch "out/${PWD##*/}" ;;
 try)
     if [ -n "$TOO_LONG" ]; then
@@ -59,6 +61,9 @@ ci)
 esac
 """
 
+# words that each of them knows
+WORDS = {"recovery-replay": ["7", "24000"], "recovery-trace": ["--controller", "cubic", "7"], "recovery-sender": ["established"],
+         "recovery-link": ["loss=1%", "--qlog"], "recovery-pictures": ["tunnel"]}
 
 # a word that each of them knows, and whether they give help after it, as the programs do
 WITH_HELP = {"recovery-replay": ("7", False), "recovery-trace": ("7", True), "recovery-sender": ("established", False),
@@ -138,199 +143,9 @@ def waited_for(happens):
     return happened
 
 
-def works_in(place, call):
-    lock = place.root / "out" / "lock"
-    return lambda: lock.is_file() and f"process {call.pid})" in lock.read_text()
-
-
-def two_at_once(place):
-    first = place.begun("./prove", "--jobs", "1", "recovery_paths")
-    tests.expect("the first ./prove begins", waited_for(lambda: list(place.root.glob("out/prove/*/crates/*/out"))) != [], True)
-    second = place.begun("./prove", "--jobs", "1", "recovery_queue")
-    told = second.stderr.readline()
-    tests.expect("the second tells of it", told, f"prove: ./prove (process {first.pid}) works in this tree; this one goes on when that has ended\n")
-    for call, name in (first, "recovery_paths"), (second, "recovery_queue"):
-        said = call.communicate(timeout=SECONDS)[1]
-        tests.expect(f"{name}, beside another", (call.returncode, said.splitlines()[-1]), (0, f"prove: {name} is proved and built"))
-    kept = [it for it in tree.made_of("recovery_paths") if not (place.root / "crates" / it / "out" / "rlib" / "stamp").is_file()]
-    tests.expect("what both proved is kept", kept, [])
-
-
-def progress(place):
-    status, _, said = place.ran("./prove")
-    last = said.splitlines()[-2:]
-    count = len(tree.made_of("recovery_program"))
-    tests.expect("./prove", (status, last), (0, [f"prove: {count} of {count} crates", "prove: recovery_program is proved and built: ./recovery-replay runs it"]))
-    tests.expect("the same logic", "warning" in said, False)
-    said = place.ran("./prove", "recovery_queue", SAID_LOGIC="logic 0123456789abcdef")[2]
-    warning = f"prove: warning: the proofs are written for {tree.logic()}, and the toolchain here has logic 0123456789abcdef\n"
-    tests.expect("another logic", said.startswith(warning), True)
-
-
-def estimates():
-    """Three crates of 100 seconds, each a dependency of the next, and a fourth that depends on the first alone. Some are kept."""
-    prove = importlib.import_module("prove")
-    needs = {"low": [], "middle": ["low"], "high": ["middle"], "beside": ["low"]}
-    prove.seconds_of, prove.is_kept = lambda name: 100, lambda name: name in kept
-    for kept, jobs, times, seconds in [([], 1, 1, 400), ([], 8, 1, 300), ([], 8, 2, 600), (["low"], 8, 1, 206), (["middle"], 1, 1, 400)]:
-        left = prove.Plan(needs, jobs).seconds_left(set(), {}, {}, times)
-        tests.expect(f"seconds on {jobs}, {kept} kept, {times} times as long", left, seconds)
-    kept = []
-    plan = prove.Plan(needs, 8)
-    tests.expect("seconds with two running", plan.seconds_left({"low"}, {"middle": 4, "beside": 4}, {"middle": 70, "beside": 10}, 1), 130)
-    shown = prove.Progress(plan)
-    tests.expect("at first", shown.text(), "prove: 0 of 4 crates, about 5 minutes more")
-    shown.done.update(needs)
-    tests.expect("at the end", shown.text(), "prove: 4 of 4 crates")
-    whole = importlib.reload(prove)
-    whole.is_kept = lambda name: False
-    minutes = whole.Plan(tree.made_of("recovery_program"), 4).seconds_left(set(), {}, {}, 1) / 60
-    tests.expect("the program takes some ten to twenty minutes", 5 < minutes < 30, True)
-
-
-def minutes_left():
-    """The gate with two crates of four proved at half the usual speed, one of them kept from an earlier run."""
-    gate = check.Gate(2)
-    gate.seconds = {"low": 100, "middle": 100, "high": 400, "beside": 200}
-    scripts = 60 * sum(it.minutes for it in check.SCRIPTS) / 2
-    tests.expect("minutes at first", gate.minutes_left(0), (800 / 2 + scripts) / 60)
-    for line in "rt: low proved\n", "rt: low: its tests are proved\n", "rt: beside is kept: it was proved here\n":
-        gate.add(line)
-    ratio = (60 + 100) / (60 + 50)
-    tests.expect("minutes with half of it", gate.minutes_left(100), ratio * (500 / 2 + scripts) / 60)
-    tests.expect("what has passed", gate.passed(), 3)
-
-
-def interrupted(place):
-    """./check with scripts that pass one each, while rt ci runs."""
-    place.stand_ins()
-    readings = len(check.READINGS)
-    for ends in lambda call: os.killpg(call.pid, signal.SIGINT), lambda call: call.terminate():
-        call = place.begun("./check")
-        begins = waited_for(lambda: place.started.is_file() and place.started.read_text().endswith("\n"))
-        started = int(place.started.read_text()) if begins else None
-        second = place.begun("./prove", "recovery_queue")
-        told = second.stderr.readline()
-        tests.expect("./prove beside it", told, f"prove: ./check (process {call.pid}) works in this tree; this one goes on when that has ended\n")
-        inner = place.ran("./prove", "recovery_base", **{tree.WORKS_IN: str(place.root.resolve())})
-        tests.expect("./prove that ./check starts itself", inner[0], 0)
-        waited_for(lambda: "its tests are" in (place.root / "out" / "check.log").read_text())
-        ends(call)
-        output, said = call.communicate(timeout=SECONDS)
-        tests.expect("./check, broken off", (call.returncode, output), (1, f"{readings + 2} passed, 1 failed\n"))
-        tests.expect("it says so", "broken off in rt ci, of which 2 had passed\n" in said, True)
-        tests.expect("nothing works on", waited_for(lambda: not pathlib.Path(f"/proc/{started}").exists()), True)
-        second.communicate(timeout=SECONDS)
-        tests.expect("./prove goes on then", second.returncode, 0)
-        place.started.unlink()
-
-
-def without_toolchain(place):
-    place.toolchain.unlink()
-    tests.expect("./prove without rt", place.ran("./prove"), (1, "", f"prove: {MISSING}"))
-    place.stand_ins()
-    status, output, said = place.ran("./check")
-    readings = len(check.READINGS)
-    tests.expect("./check without rt and programs", (status, output), (1, f"unproved: {readings} passed, 1 failed, 1 skipped\n"))
-    tests.expect("it says what is left out", "the tests of the programs are left out: there is no prebuilt/" in said, True)
-    place.prebuild(*LAUNCHERS)
-    skipped = [it.title for it in check.SCRIPTS if it.needs]
-    passed = readings + len(check.SCRIPTS) - len(skipped)
-    status, output, said = place.ran("./check")
-    tests.expect("./check without rt", (status, output), (0, f"unproved: {passed} passed, 0 failed, {len(skipped) + 1} skipped\n"))
-    lines = said.splitlines()
-    tests.expect("its first line", f"nothing is proved here: {MISSING[:-1]}" in lines[0], True)
-    tests.expect("its last lines", f"nothing was proved here: {MISSING[:-1]}" in lines[-2], True)
-    why = {"rt": MISSING[:-1], "rustc": "rustc 1.82 or later is not on the PATH"}
-    for it in check.SCRIPTS:
-        tests.expect(f"{it.title}: whether it is skipped", f": {it.title}: skipped: {why.get(it.needs)}\n" in said, it.title in skipped)
-    for words, more in (["./check", "--all"], {}), (["./check"], {"CI": "true"}):
-        wanted = (1, f"unproved: {passed} passed, 1 failed, {len(skipped)} skipped\n")
-        tests.expect(f"{' '.join(words)} with {more}, without rt", place.ran(*words, **more)[:2], wanted)
-    tests.expect("./check --only", place.ran("./check", "--only", "program", "-k", "acks")[:2], (0, "partial: 1 passed, 0 failed\n"))
-    tests.expect("./check --only a part that needs rt", place.ran("./check", "--only", "rust")[:2], (0, "partial: 0 passed, 0 failed, 1 skipped\n"))
-    tests.expect("./check --only what there is not", place.ran("./check", "--only", "nothing")[:2], (2, ""))
-    shutil.rmtree(place.root / "prebuilt")
-    tests.expect("./dist without rt", place.ran("./dist"), (1, "", f"dist: {MISSING}"))
-    for name, crate in LAUNCHERS.items():
-        usage = (place.root / "crates" / crate / "help.txt").read_text()
-        tests.expect(f"{name} without rt", place.ran(f"./{name}"), (1, "", f"{name}: not proved yet, and {MISSING}"))
-        tests.expect(f"{name} --help without rt", place.ran(f"./{name}", "--help"), (0, usage, ""))
-        version = (0, f"{name} {(ROOT / 'VERSION').read_text()}", "")
-        tests.expect(f"{name} --version without rt", place.ran(f"./{name}", "--version"), version)
-        wrong = (2, "", usage.splitlines(True)[0])
-        tests.expect(f"{name} without rt, on a word that it does not know", place.ran(f"./{name}", "--nothing"), wrong)
-        word, given = WITH_HELP[name]
-        tests.expect(f"{name} {word} --help without rt", place.ran(f"./{name}", word, "--help"), (0, usage, "") if given else wrong)
-    for name in "./prove", "./check":
-        status, output, said = place.ran(name, "--help")
-        tests.expect(f"{name} --help", (status, output.startswith(f"usage: {name[2:]} "), said), (0, True, ""))
-        tests.expect(f"{name} --version", place.ran(name, "--version"), (0, f"{tree.version()}\n", ""))
-
-
-def not_writable(place):
-    """A file is in the place of the folder for builds, so nothing can be written there, as in a read-only tree, even by root."""
-    (place.root / "out").write_text("")
-    status, output, said = place.ran("./prove")
-    tests.expect("./prove where nothing can be written", (status, output, said.count("\n")), (1, "", 1))
-    tests.expect("it says so", said.startswith(f"prove: nothing can be written here: {place.root / 'out'}: "), True)
-    status, output, said = place.ran("./check")
-    tests.expect("./check where nothing can be written", (status, output), (1, "0 passed, 1 failed\n"))
-    (place.root / "out").unlink()
-
-
 def notice(name, crate, why):
     proves = "./prove" if name == "recovery-replay" else f"./prove {crate}"
     return f"{name}: {why}: compiles its sources without proof, in about half a minute and at each call; {proves} proves and keeps it\n"
-
-
-WORDS = {"recovery-replay": ["7", "24000"], "recovery-trace": ["--controller", "cubic", "7"], "recovery-sender": ["established"],
-         "recovery-link": ["loss=1%", "--qlog"], "recovery-pictures": ["tunnel"]}
-
-
-@contextlib.contextmanager
-def changed(path):
-    """A file with one line more, and with an older time, as an archive or rsync leaves it."""
-    text = path.read_bytes()
-    path.write_bytes(text + b"// changed\n")
-    os.utime(path, (0, 0))
-    try:
-        yield
-    finally:
-        path.write_bytes(text)
-
-
-def launched(place, name, crate):
-    """A program that is missing, built here, of other sources, and built elsewhere."""
-    words = WORDS[name]
-    ran = lambda **more: place.ran(f"./{name}", *words, **more)
-    unproved = lambda why: (2, f"the sources ran: {' '.join(words)}\n", f"{notice(name, crate, why)}line 2: told\n")
-    tests.expect(f"{name}: no program", ran(), unproved("not proved yet"))
-    long = f"{notice(name, crate, 'not proved yet')}{name}: the answers pass 1,048,576 bytes, and no more can be written without proof\n"
-    tests.expect(f"{name}: too many answers", ran(TOO_LONG="1"), (1, "", long))
-    program = place.build(crate)
-    proved = (3, f"the program ran: {' '.join(words)}\n", "")
-    tests.expect(f"{name}: an up-to-date program", ran(), proved)
-    for word in "--help", "--version", "anything":
-        tests.expect(f"{name} {word}, handed on", place.ran(f"./{name}", word), (3, f"the program ran: {word}\n", ""))
-    for path in "crates/quic_recovery_tests/src/lines.rt", "README.md", "examples/acks.txt":
-        with changed(place.root / path):
-            tests.expect(f"{name}: another {path}", ran(), proved)
-    (place.root / "crates/recovery_base/src/time.rt").touch()
-    tests.expect(f"{name}: a source of the same text is newer", ran(), proved)
-    status, output, said = tree.ran([place.root / name, *words], **{**place.how(), "cwd": "/"})
-    tests.expect(f"{name}: from another folder", (status, output.decode(), said.decode()), proved)
-    link = place.tools / "linked"
-    link.symlink_to(place.root / name)
-    tests.expect(f"{name}: by a link", place.ran(str(link), *words), proved)
-    link.unlink()
-    for path in "crates/recovery_base/src/time.rt", "crates/recovery_history/proofs/ReachabilityLaws.antt", f"crates/{crate}/src/main.rt":
-        with changed(place.root / path):
-            tests.expect(f"{name}: another {path}", ran(), unproved("changed since it was proved"))
-    place.script(program, "another program ran")
-    tests.expect(f"{name}: a program that replaced the built one", ran(), unproved("changed since it was proved"))
-    tests.expect(f"{name}: in a folder whose name has a quote", ran(TMPDIR=str(place.odd())), unproved("changed since it was proved"))
-    tests.expect("nothing is deleted that was there, and nothing left", [it.name for it in place.odd().iterdir()], ["of the caller"])
 
 
 def checksum(text):
@@ -344,36 +159,6 @@ def sum_of(root, crate):
     return checksum(b"".join(f"{checksum(it.read_bytes())}  ".encode() + name + b"\n" for name, it in named))
 
 
-def prebuilt(place, name, crate):
-    """A prebuilt program runs exactly if it is the listed one, and was built from exactly the sources here."""
-    program, = place.prebuild(name)
-    words = WORDS[name]
-    ran = lambda *words: place.ran(f"./{name}", *words)
-    runs = (4, f"the prebuilt program ran: {' '.join(words)}\n", "")
-    unproved = lambda why: (2, f"the sources ran: {' '.join(words)}\n", f"{notice(name, crate, why)}line 2: told\n")
-    tests.expect(f"{name}: prebuilt", ran(*words), runs)
-    tests.expect(f"{name}: prebuilt, --help", ran("--help")[:2], (4, "the prebuilt program ran: --help\n"))
-    (place.root / "crates" / crate / "src" / "main.rt").touch()
-    tests.expect(f"{name}: prebuilt, and a file of the same text is newer", ran(*words), runs)
-    place.script(place.root / "crates" / crate / "out" / crate, "a program from elsewhere ran")
-    tests.expect(f"{name}: prebuilt, and a program that was not built here", ran(*words), runs)
-    shutil.rmtree(place.root / "crates" / crate / "out")
-    place.toolchain.rename(place.tools / "hidden")
-    tests.expect(f"{name}: prebuilt, without rt", ran(*words), runs)
-    source = place.root / "crates" / "recovery_base" / "src" / "time.rt"
-    text = source.read_bytes()
-    source.write_bytes(text + b"// changed\n")
-    other = f"prebuilt/{tree.TARGET}/bin/{name} was built from other sources than those here"
-    tests.expect(f"{name}: a changed source, without rt", ran(*words), (1, "", f"{name}: {other}, and {MISSING}"))
-    (place.tools / "hidden").rename(place.toolchain)
-    tests.expect(f"{name}: a changed source", ran(*words), unproved(other))
-    source.write_bytes(text)
-    program.write_bytes(program.read_bytes() + b"#")
-    tests.expect(f"{name}: a changed program", ran(*words), unproved(f"prebuilt/{tree.TARGET}/bin/{name} is not the file that SHA256SUMS lists"))
-    shutil.rmtree(place.root / "prebuilt")
-    tests.expect(f"{name}: no longer prebuilt", ran(*words), unproved("not proved yet"))
-
-
 def git(place, *words):
     """Has git work in a folder, without the settings of this machine."""
     own = {"GIT_CONFIG_GLOBAL": os.devnull, "GIT_CONFIG_SYSTEM": os.devnull}
@@ -381,79 +166,485 @@ def git(place, *words):
     subprocess.run(["git", *who, *words], check=True, stdout=subprocess.DEVNULL, **{**place.how(**own), "cwd": place.root.parent})
 
 
-def committed(place):
+@contextlib.contextmanager
+def restored(path):
+    """A file that gets its text back."""
+    text = path.read_bytes()
+    try:
+        yield text
+    finally:
+        path.write_bytes(text)
+
+
+@contextlib.contextmanager
+def changed(path):
+    """A file with one line more, and with an older time, as an archive or rsync leaves it."""
+    with restored(path) as text:
+        path.write_bytes(text + b"// changed\n")
+        os.utime(path, (0, 0))
+        yield
+
+
+@contextlib.contextmanager
+def hidden(path):
+    aside = path.rename(path.with_name("hidden"))
+    try:
+        yield
+    finally:
+        aside.rename(path)
+
+
+class Placed(tree.TestCase):
+    """Tests that share a copy of the tree. Each leaves it as it was."""
+
+    @classmethod
+    def setUpClass(cls):
+        folder = tempfile.TemporaryDirectory()
+        cls.addClassCleanup(folder.cleanup)
+        cls.place = Place(pathlib.Path(folder.name).resolve())
+        cls.prepare()
+
+    @classmethod
+    def prepare(cls):
+        """Makes what the tests of a class have in their copy."""
+
+    def run_launcher(self, name, **more):
+        return self.place.ran(f"./{name}", *WORDS[name], **more)
+
+    def unproved(self, name, crate, why):
+        """What a launcher does that runs its sources."""
+        return 2, f"the sources ran: {' '.join(WORDS[name])}\n", f"{notice(name, crate, why)}line 2: told\n"
+
+
+# ---- ./prove and ./check
+
+
+class SecondsLeft(tree.TestCase):
+    """Three crates of 100 seconds, each a dependency of the next, and a fourth that depends on the first alone. Some are kept."""
+
+    NEEDS = {"low": [], "middle": ["low"], "high": ["middle"], "beside": ["low"]}
+
+    def plan(self, kept, jobs):
+        for name, seen in ("seconds_of", lambda name: 100), ("is_kept", lambda name: name in kept):
+            patch = mock.patch.object(prove, name, seen)
+            patch.start()
+            self.addCleanup(patch.stop)
+        return prove.Plan(self.NEEDS, jobs)
+
+    @tree.each([([], 1, 1, 400), ([], 8, 1, 300), ([], 8, 2, 600), (["low"], 8, 1, 206), (["middle"], 1, 1, 400)],
+               "with {0} kept on {1} and {2} times as long")
+    def test_at_first(self, kept, jobs, times, seconds):
+        self.assertEqual(self.plan(kept, jobs).seconds_left(set(), {}, {}, times), seconds)
+
+    def test_with_two_running(self):
+        self.assertEqual(self.plan([], 8).seconds_left({"low"}, {"middle": 4, "beside": 4}, {"middle": 70, "beside": 10}, 1), 130)
+
+    def test_text(self):
+        shown = prove.Progress(self.plan([], 8))
+        self.assertEqual(shown.text(), "prove: 0 of 4 crates, about 5 minutes more")
+        shown.done.update(self.NEEDS)
+        self.assertEqual(shown.text(), "prove: 4 of 4 crates")
+
+    def test_program_takes_some_ten_to_twenty_minutes(self):
+        with mock.patch.object(prove, "is_kept", lambda name: False):
+            minutes = prove.Plan(tree.made_of("recovery_program"), 4).seconds_left(set(), {}, {}, 1) / 60
+        self.assertTrue(5 < minutes < 30, minutes)
+
+
+class MinutesLeft(tree.TestCase):
+    """The gate with two crates of four proved at half the usual speed, one of them kept from an earlier run."""
+
+    def setUp(self):
+        self.gate = check.Gate(2)
+        self.gate.seconds = {"low": 100, "middle": 100, "high": 400, "beside": 200}
+        self.scripts = 60 * sum(it.minutes for it in check.SCRIPTS) / 2
+
+    def half(self):
+        for line in "rt: low proved\n", "rt: low: its tests are proved\n", "rt: beside is kept: it was proved here\n":
+            self.gate.add(line)
+
+    def test_at_first(self):
+        self.assertEqual(self.gate.minutes_left(0), (800 / 2 + self.scripts) / 60)
+
+    def test_with_half_of_it(self):
+        self.half()
+        ratio = (60 + 100) / (60 + 50)
+        self.assertEqual(self.gate.minutes_left(100), ratio * (500 / 2 + self.scripts) / 60)
+
+    def test_passed(self):
+        self.half()
+        self.assertEqual(self.gate.passed(), 3)
+
+
+class TwoAtOnce(Placed):
+    def test_second_waits(self):
+        first = self.place.begun("./prove", "--jobs", "1", "recovery_paths")
+        self.assertTrue(waited_for(lambda: list(self.place.root.glob("out/prove/*/crates/*/out"))), "the first ./prove begins")
+        second = self.place.begun("./prove", "--jobs", "1", "recovery_queue")
+        waits = f"prove: ./prove (process {first.pid}) works in this tree; this one goes on when that has ended\n"
+        self.assertEqual(second.stderr.readline(), waits)
+        for call, name in (first, "recovery_paths"), (second, "recovery_queue"):
+            said = call.communicate(timeout=SECONDS)[1]
+            self.assertEqual((call.returncode, said.splitlines()[-1]), (0, f"prove: {name} is proved and built"))
+        kept = [it for it in tree.made_of("recovery_paths") if not (self.place.root / "crates" / it / "out" / tree.mark_of_rlib(it)).is_file()]
+        self.assertEqual(kept, [], "what both proved is kept")
+
+
+class Prove(Placed):
+    def test_last_lines(self):
+        status, _, said = self.place.ran("./prove")
+        count = len(tree.made_of("recovery_program"))
+        lines = [f"prove: {count} of {count} crates", "prove: recovery_program is proved and built: ./recovery-replay runs it"]
+        self.assertEqual((status, said.splitlines()[-2:]), (0, lines))
+        self.assertNotIn("warning", said)
+
+    def test_another_logic(self):
+        said = self.place.ran("./prove", "recovery_queue", SAID_LOGIC="logic 0123456789abcdef")[2]
+        warning = f"prove: warning: the proofs are written for {tree.logic()}, and the toolchain here has logic 0123456789abcdef\n"
+        self.assertEqual(said[:len(warning)], warning)
+
+
+class Interrupted(Placed):
+    """./check with scripts that pass one each, while rt ci runs."""
+
+    @classmethod
+    def prepare(cls):
+        cls.place.stand_ins()
+
+    @tree.each([("by ctrl-C", lambda call: os.killpg(call.pid, signal.SIGINT)), ("by SIGTERM", lambda call: call.terminate())])
+    def test_check(self, _, ends):
+        started = self.place.started
+        started.unlink(missing_ok=True)
+        call = self.place.begun("./check")
+        self.assertTrue(waited_for(lambda: started.is_file() and started.read_text().endswith("\n")), "rt ci begins")
+        second = self.place.begun("./prove", "recovery_queue")
+        waits = f"prove: ./check (process {call.pid}) works in this tree; this one goes on when that has ended\n"
+        self.assertEqual(second.stderr.readline(), waits)
+        inner = self.place.ran("./prove", "recovery_base", **{tree.WORKS_IN: str(self.place.root.resolve())})
+        self.assertEqual(inner[0], 0, "./check starts ./prove itself")
+        waited_for(lambda: "its tests are" in (self.place.root / "out" / "check.log").read_text())
+        ends(call)
+        output, said = call.communicate(timeout=SECONDS)
+        self.assertEqual((call.returncode, output), (1, f"{len(check.READINGS) + 2} passed, 1 failed\n"))
+        self.assertIn("broken off in rt ci, of which 2 had passed\n", said)
+        self.assertTrue(waited_for(lambda: not pathlib.Path(f"/proc/{int(started.read_text())}").exists()), "nothing works on")
+        second.communicate(timeout=SECONDS)
+        self.assertEqual(second.returncode, 0, "./prove goes on then")
+
+
+class NotWritable(Placed):
+    """A file is in the place of the folder for builds, so nothing can be written there, as in a read-only tree, even by root."""
+
+    @classmethod
+    def prepare(cls):
+        (cls.place.root / "out").write_text("")
+
+    def test_prove(self):
+        status, output, said = self.place.ran("./prove")
+        self.assertEqual((status, output, said.count("\n")), (1, "", 1))
+        self.assertEqual(said.rpartition(": ")[0], f"prove: nothing can be written here: {self.place.root / 'out'}")
+
+    def test_check(self):
+        self.assertEqual(self.place.ran("./check")[:2], (1, "0 passed, 1 failed\n"))
+
+
+class WithoutPython(Placed):
+    @tree.each(["check", "prove", "dist"])
+    def test_missing(self, name):
+        with hidden(self.place.tools / "python3"):
+            wanted = (1, "", f"{name}: Python 3.8 or later is missing: its command python3 is not on the PATH\n")
+            self.assertEqual(self.place.ran(f"./{name}"), wanted)
+
+    def test_older(self):
+        with hidden(self.place.tools / "python3"):
+            old = self.place.tools / "python3"
+            old.write_text('#!/bin/sh\n[ "$1" = --version ] && echo Python 3.7.3 || exit 1\n')
+            old.chmod(0o755)
+            found = self.place.ran("./check")
+        self.assertEqual(found, (1, "", "check: Python 3.8 or later is needed, and python3 is Python 3.7.3\n"))
+
+
+# ---- without the toolchain
+
+
+class WithoutToolchain(Placed):
+    @classmethod
+    def prepare(cls):
+        cls.place.toolchain.unlink()
+
+    def usage(self, crate):
+        return (self.place.root / "crates" / crate / "help.txt").read_text()
+
+    @tree.each(["prove", "dist"])
+    def test_script(self, name):
+        self.assertEqual(self.place.ran(f"./{name}"), (1, "", f"{name}: {MISSING}"))
+
+    @tree.each(["prove", "check"])
+    def test_help_of_script(self, name):
+        status, output, said = self.place.ran(f"./{name}", "--help")
+        self.assertEqual((status, output.startswith(f"usage: {name} "), said), (0, True, ""))
+
+    @tree.each(["prove", "check"])
+    def test_version_of_script(self, name):
+        self.assertEqual(self.place.ran(f"./{name}", "--version"), (0, f"{tree.version()}\n", ""))
+
+    @tree.each(LAUNCHERS.items())
+    def test_launcher(self, name, crate):
+        self.assertEqual(self.place.ran(f"./{name}"), (1, "", f"{name}: not proved yet, and {MISSING}"))
+
+    @tree.each(LAUNCHERS.items())
+    def test_help(self, name, crate):
+        self.assertEqual(self.place.ran(f"./{name}", "--help"), (0, self.usage(crate), ""))
+
+    @tree.each(LAUNCHERS)
+    def test_version(self, name):
+        self.assertEqual(self.place.ran(f"./{name}", "--version"), (0, f"{name} {(ROOT / 'VERSION').read_text()}", ""))
+
+    @tree.each(LAUNCHERS.items())
+    def test_unknown_word(self, name, crate):
+        self.assertEqual(self.place.ran(f"./{name}", "--nothing"), (2, "", self.usage(crate).splitlines(True)[0]))
+
+    @tree.each(LAUNCHERS.items())
+    def test_help_after_a_word(self, name, crate):
+        word, gives = WITH_HELP[name]
+        wanted = (0, self.usage(crate), "") if gives else (2, "", self.usage(crate).splitlines(True)[0])
+        self.assertEqual(self.place.ran(f"./{name}", word, "--help"), wanted)
+
+
+class CheckWithoutToolchain(Placed):
+    SKIPPED = [it.title for it in check.SCRIPTS if it.needs]
+    PASSED = len(check.READINGS) + len(check.SCRIPTS) - len(SKIPPED)
+
+    @classmethod
+    def prepare(cls):
+        cls.place.toolchain.unlink()
+        cls.place.stand_ins()
+        cls.bare = cls.place.ran("./check")
+        cls.place.prebuild(*LAUNCHERS)
+        cls.found = cls.place.ran("./check")
+
+    def test_without_programs(self):
+        self.assertEqual(self.bare[:2], (1, f"unproved: {len(check.READINGS)} passed, 1 failed, 1 skipped\n"))
+        self.assertIn("the tests of the programs are left out: there is no prebuilt/", self.bare[2])
+
+    def test_counts(self):
+        self.assertEqual(self.found[:2], (0, f"unproved: {self.PASSED} passed, 0 failed, {len(self.SKIPPED) + 1} skipped\n"))
+
+    def test_first_line(self):
+        self.assertIn(f"nothing is proved here: {MISSING[:-1]}", self.found[2].splitlines()[0])
+
+    def test_last_lines(self):
+        self.assertIn(f"nothing was proved here: {MISSING[:-1]}", self.found[2].splitlines()[-2])
+
+    @tree.each((it.title, it.needs) for it in check.SCRIPTS)
+    def test_skipped(self, title, needs):
+        why = {"rt": MISSING[:-1], "rustc": "rustc 1.82 or later is not on the PATH"}
+        self.assertEqual(f": {title}: skipped: {why.get(needs)}\n" in self.found[2], bool(needs))
+
+    @tree.each([("by --all", ["--all"], {}), ("by CI=true", [], {"CI": "true"})])
+    def test_failure(self, _, words, more):
+        wanted = (1, f"unproved: {self.PASSED} passed, 1 failed, {len(self.SKIPPED)} skipped\n")
+        self.assertEqual(self.place.ran("./check", *words, **more)[:2], wanted)
+
+    @tree.each([
+        ("a part", ["program", "-k", "acks"], 0, "partial: 1 passed, 0 failed\n"),
+        ("a part that needs rt", ["rust"], 0, "partial: 0 passed, 0 failed, 1 skipped\n"),
+        ("what there is not", ["nothing"], 2, ""),
+    ])
+    def test_only(self, _, words, status, output):
+        self.assertEqual(self.place.ran("./check", "--only", *words)[:2], (status, output))
+
+
+# ---- the launchers
+
+TEXTS = ["crates/quic_recovery_tests/src/lines.rt", "README.md", "examples/acks.txt"]  # of which no program is built
+SOURCES = ["crates/recovery_base/src/time.rt", "crates/recovery_history/proofs/ReachabilityLaws.antt", "crates/{}/src/main.rt"]
+
+
+class Unbuilt(Placed):
+    @tree.each(LAUNCHERS.items())
+    def test_no_program(self, name, crate):
+        self.assertEqual(self.run_launcher(name), self.unproved(name, crate, "not proved yet"))
+
+    @tree.each(LAUNCHERS.items())
+    def test_too_many_answers(self, name, crate):
+        long = f"{notice(name, crate, 'not proved yet')}{name}: the answers pass 1,048,576 bytes, and no more can be written without proof\n"
+        self.assertEqual(self.run_launcher(name, TOO_LONG="1"), (1, "", long))
+
+    @tree.each([("recovery-replay --help", 0), ("prove --help", 0), ("check --version", 0), ("recovery-trace", 2)])
+    def test_nobody_reads(self, command, wanted):
+        """A pipe whose reader is gone before anything is written to it."""
+        with tree.unread() as pipe:
+            status, _, said = tree.ran(f"./{command}".split(), stdout=pipe, **self.place.how())
+        told = re.sub(r"^.*: compiles its sources .*\n|^line 2: told\n", "", said.decode(), flags=re.M)
+        self.assertEqual((status, told), (wanted, ""))
+
+
+class Built(Placed):
+    """Programs that ./prove built here, from these sources or from others."""
+
+    @classmethod
+    def prepare(cls):
+        cls.programs = {crate: cls.place.build(crate) for crate in LAUNCHERS.values()}
+
+    def proved(self, name):
+        return 3, f"the program ran: {' '.join(WORDS[name])}\n", ""
+
+    @tree.each(LAUNCHERS)
+    def test_up_to_date(self, name):
+        self.assertEqual(self.run_launcher(name), self.proved(name))
+
+    @tree.each(((name, word) for name in LAUNCHERS for word in ("--help", "--version", "anything")), "{0} {1}")
+    def test_word(self, name, word):
+        self.assertEqual(self.place.ran(f"./{name}", word), (3, f"the program ran: {word}\n", ""))
+
+    @tree.each(((name, path) for name in LAUNCHERS for path in TEXTS), "{0} {1}")
+    def test_another_text(self, name, path):
+        with changed(self.place.root / path):
+            self.assertEqual(self.run_launcher(name), self.proved(name))
+
+    @tree.each(LAUNCHERS)
+    def test_newer_source_of_the_same_text(self, name):
+        (self.place.root / "crates/recovery_base/src/time.rt").touch()
+        self.assertEqual(self.run_launcher(name), self.proved(name))
+
+    @tree.each(LAUNCHERS)
+    def test_from_another_folder(self, name):
+        status, output, said = tree.ran([self.place.root / name, *WORDS[name]], **{**self.place.how(), "cwd": "/"})
+        self.assertEqual((status, output.decode(), said.decode()), self.proved(name))
+
+    @tree.each(LAUNCHERS)
+    def test_by_a_link(self, name):
+        link = self.place.tools / "linked"
+        link.symlink_to(self.place.root / name)
+        self.addCleanup(link.unlink)
+        self.assertEqual(self.place.ran(str(link), *WORDS[name]), self.proved(name))
+
+    @tree.each(((name, crate, path) for name, crate in LAUNCHERS.items() for path in SOURCES), "{0} {2}")
+    def test_another_source(self, name, crate, path):
+        with changed(self.place.root / path.format(crate)):
+            self.assertEqual(self.run_launcher(name), self.unproved(name, crate, "changed since it was proved"))
+
+    @tree.each(LAUNCHERS.items())
+    def test_replaced_program(self, name, crate):
+        with restored(self.programs[crate]):
+            self.place.script(self.programs[crate], "another program ran")
+            self.assertEqual(self.run_launcher(name), self.unproved(name, crate, "changed since it was proved"))
+
+    @tree.each(LAUNCHERS.items())
+    def test_folder_whose_name_has_a_quote(self, name, crate):
+        """Nothing is deleted that was there, and nothing is left."""
+        with changed(self.place.root / "crates" / crate / "src" / "main.rt"):
+            found = self.run_launcher(name, TMPDIR=str(self.place.odd()))
+        self.assertEqual(found, self.unproved(name, crate, "changed since it was proved"))
+        self.assertEqual([it.name for it in self.place.odd().iterdir()], ["of the caller"])
+
+
+class Prebuilt(Placed):
+    """A prebuilt program runs exactly if it is the listed one, and was built from exactly the sources here."""
+
+    @classmethod
+    def prepare(cls):
+        cls.place.prebuild(*LAUNCHERS)
+        cls.folder = cls.place.root / "prebuilt" / tree.TARGET / "bin"
+
+    def prebuilt(self, name):
+        return 4, f"the prebuilt program ran: {' '.join(WORDS[name])}\n", ""
+
+    @tree.each(LAUNCHERS)
+    def test_runs(self, name):
+        self.assertEqual(self.run_launcher(name), self.prebuilt(name))
+
+    @tree.each(LAUNCHERS)
+    def test_help(self, name):
+        self.assertEqual(self.place.ran(f"./{name}", "--help"), (4, "the prebuilt program ran: --help\n", ""))
+
+    @tree.each(LAUNCHERS.items())
+    def test_newer_source_of_the_same_text(self, name, crate):
+        (self.place.root / "crates" / crate / "src" / "main.rt").touch()
+        self.assertEqual(self.run_launcher(name), self.prebuilt(name))
+
+    @tree.each(LAUNCHERS.items())
+    def test_program_that_was_not_built_here(self, name, crate):
+        out = self.place.root / "crates" / crate / "out"
+        self.addCleanup(shutil.rmtree, out)
+        self.place.script(out / crate, "a program from elsewhere ran")
+        self.assertEqual(self.run_launcher(name), self.prebuilt(name))
+
+    @tree.each(LAUNCHERS)
+    def test_without_toolchain(self, name):
+        with hidden(self.place.toolchain):
+            self.assertEqual(self.run_launcher(name), self.prebuilt(name))
+
+    @tree.each(LAUNCHERS.items())
+    def test_another_source(self, name, crate):
+        why = f"prebuilt/{tree.TARGET}/bin/{name} was built from other sources than those here"
+        with changed(self.place.root / "crates" / "recovery_base" / "src" / "time.rt"):
+            self.assertEqual(self.run_launcher(name), self.unproved(name, crate, why))
+            with hidden(self.place.toolchain):
+                self.assertEqual(self.run_launcher(name), (1, "", f"{name}: {why}, and {MISSING}"))
+
+    @tree.each(LAUNCHERS.items())
+    def test_changed_program(self, name, crate):
+        why = f"prebuilt/{tree.TARGET}/bin/{name} is not the file that SHA256SUMS lists"
+        with changed(self.folder / name):
+            self.assertEqual(self.run_launcher(name), self.unproved(name, crate, why))
+
+    @tree.each(LAUNCHERS.items())
+    def test_no_longer_there(self, name, crate):
+        with hidden(self.place.root / "prebuilt"):
+            self.assertEqual(self.run_launcher(name), self.unproved(name, crate, "not proved yet"))
+
+
+@unittest.skipUnless(shutil.which("git"), "git is not on the PATH")
+class Committed(Placed):
     """A build is committed with the record that fits the sources, and gets to others by a pull, a clone, an archive and a copy. Nobody runs it, and
     nothing is made of it."""
-    if not shutil.which("git"):
-        print("launchers: the tests of committed builds are skipped: git is not on the PATH", file=sys.stderr)
-        return
-    name, crate = "recovery-trace", "recovery_trace"
-    place.prebuild(name)
-    home, runs = place.root, (4, "the prebuilt program ran: 7\n", "")
-    git(place, "init", "-q", str(home))
-    git(place, "-C", str(home), "add", ".")
-    git(place, "-C", str(home), "commit", "-qm", "Before")
-    git(place, "clone", "-q", str(home), "pulled")
-    place.build(crate)
-    tests.expect("a build runs where it was made", place.ran(f"./{name}", "7"), (3, "the program ran: 7\n", ""))
-    git(place, "-C", str(home), "add", "-f", f"crates/{crate}/out", "out/built")
-    git(place, "-C", str(home), "commit", "-qm", "Tidy up")
-    git(place, "-C", "pulled", "pull", "-q")
-    git(place, "clone", "-q", str(home), "cloned")
-    git(place, "-C", str(home), "archive", "-o", str(home.parent / "archive.tar"), "HEAD")
-    shutil.unpack_archive(home.parent / "archive.tar", home.parent / "unpacked")
-    shutil.copytree(home.parent / "cloned", home.parent / "copied")
-    for it in "pulled", "cloned", "unpacked", "copied":
-        place.root = home.parent / it
-        tests.expect(f"a committed build, {it}", place.ran(f"./{name}", "7"), runs)
-        rejects = (1, "", "{}: " + f"crates/{crate}/out/{crate} is committed, and a build has to be made here: git rm --cached crates/{crate}/out/{crate}\n")
-        if it != "unpacked":
-            for words in ["dist", "--sums"], ["dist", "--compare"], ["dist"], ["prove"]:
-                wanted = (*rejects[:2], rejects[2].format(words[0]))
-                tests.expect(f"{' '.join(words)}, {it}", place.ran(f"./{words[0]}", *words[1:]), wanted)
-        else:
-            wanted = (1, "", "dist: recovery_program was not built here from the sources as they are: ./prove recovery_program\n")
-            tests.expect("dist --compare, unpacked", place.ran("./dist", "--compare"), wanted)
-    place.root = home
 
+    NAME, CRATE = "recovery-trace", "recovery_trace"
+    WAYS = ["pulled", "cloned", "unpacked", "copied"]
 
-def without_python(place):
-    (place.tools / "python3").unlink()
-    for name in "check", "prove", "dist":
-        wanted = (1, "", f"{name}: Python 3.8 or later is missing: its command python3 is not on the PATH\n")
-        tests.expect(f"./{name} without Python", place.ran(f"./{name}"), wanted)
-    old = place.tools / "python3"
-    old.write_text('#!/bin/sh\n[ "$1" = --version ] && echo Python 3.7.3 || exit 1\n')
-    old.chmod(0o755)
-    wanted = (1, "", "check: Python 3.8 or later is needed, and python3 is Python 3.7.3\n")
-    tests.expect("./check with an older Python", place.ran("./check"), wanted)
+    @classmethod
+    def prepare(cls):
+        cls.place.prebuild(cls.NAME)
+        home = cls.place.root
+        work = lambda *words: git(cls.place, *words)
+        work("init", "-q", str(home))
+        work("-C", str(home), "add", ".")
+        work("-C", str(home), "commit", "-qm", "Before")
+        work("clone", "-q", str(home), "pulled")
+        cls.place.build(cls.CRATE)
+        cls.uncommitted = cls.place.ran(f"./{cls.NAME}", "7")
+        work("-C", str(home), "add", "-f", f"crates/{cls.CRATE}/out", "out/built")
+        work("-C", str(home), "commit", "-qm", "Tidy up")
+        work("-C", "pulled", "pull", "-q")
+        work("clone", "-q", str(home), "cloned")
+        work("-C", str(home), "archive", "-o", str(home.parent / "archive.tar"), "HEAD")
+        shutil.unpack_archive(home.parent / "archive.tar", home.parent / "unpacked")
+        shutil.copytree(home.parent / "cloned", home.parent / "copied")
 
+    def at(self, way):
+        found = copy.copy(self.place)
+        found.root = self.place.root.parent / way
+        return found
 
-def nobody_reads(place):
-    """A pipe whose reader is gone before anything is written to it."""
-    for words in (["./recovery-replay", "--help"], 0), (["./prove", "--help"], 0), (["./check", "--version"], 0), (["./recovery-trace"], 2):
-        reader, writer = os.pipe()
-        os.close(reader)
-        status, _, said = tree.ran(words[0], stdout=writer, **place.how())
-        os.close(writer)
-        told = re.sub(r"^.*: compiles its sources .*\n|^line 2: told\n", "", said.decode(), flags=re.M)
-        tests.expect(f"{words[0]}, and nobody reads", (status, told), (words[1], ""))
+    def test_runs_where_it_was_made(self):
+        self.assertEqual(self.uncommitted, (3, "the program ran: 7\n", ""))
 
+    @tree.each(WAYS)
+    def test_launcher(self, way):
+        self.assertEqual(self.at(way).ran(f"./{self.NAME}", "7"), (4, "the prebuilt program ran: 7\n", ""))
 
-def main():
-    estimates()
-    minutes_left()
-    for part in two_at_once, progress, interrupted, without_toolchain, not_writable, committed, without_python:
-        with tempfile.TemporaryDirectory() as folder:
-            part(Place(pathlib.Path(folder).resolve()))
-    with tempfile.TemporaryDirectory() as folder:
-        place = Place(pathlib.Path(folder).resolve())
-        nobody_reads(place)
-        for name, crate in LAUNCHERS.items():
-            prebuilt(place, name, crate)
-            launched(place, name, crate)
-    tests.end()
+    @tree.each(((way, command) for way in WAYS if way != "unpacked" for command in ("dist --sums", "dist --compare", "dist", "prove")), "{0} {1}")
+    def test_rejected(self, way, command):
+        file = f"crates/{self.CRATE}/out/{self.CRATE}"
+        error = f"{command.split()[0]}: {file} is committed, and a build has to be made here: git rm --cached {file}\n"
+        self.assertEqual(self.at(way).ran(*f"./{command}".split()), (1, "", error))
+
+    def test_compared_in_an_archive(self):
+        error = "dist: recovery_program was not built here from the sources as they are: ./prove recovery_program\n"
+        self.assertEqual(self.at("unpacked").ran("./dist", "--compare"), (1, "", error))
 
 
 if __name__ == "__main__":
-    main()
+    tree.main("launchers")

@@ -75,7 +75,7 @@ def sources_of(name):
 
 def built_of(name):
     """What a crate can be built as, below its folder `out`."""
-    return tree.RLIB, name, f"lib{name}.a"
+    return tree.mark_of_rlib(name), name, f"lib{name}.a"
 
 
 def is_kept(name):

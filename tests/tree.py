@@ -21,7 +21,6 @@ WORKS_IN = "QUIC_RECOVERY_WORKS_IN"  # the tree that the script which started th
 SHOWN = 1000  # characters of the values that a test found and expected
 SHOWN_LINES = 60  # of the difference between two programs' answers
 __unittest = True  # tracebacks of failures leave out this file
-RLIB = "rlib/stamp"  # the file that a build of a library writes last
 BASELINE = ["--cpu", "x86-64"]  # for the static library: unlike a program, it does not check its processor
 
 
@@ -94,6 +93,11 @@ def rlib(name):
     return ROOT / "crates" / name / "out" / "rlib" / f"{name}.rlib"
 
 
+def mark_of_rlib(name):
+    """The file in a built library, below the crate's folder `out`, that holds the checksum of its other files."""
+    return f"rlib/{name}.rlib/format"
+
+
 def sum_of_sources(name, root=ROOT):
     """One checksum of all that a crate of a tree is compiled and proved from."""
     return asked("sum_of_sources", name, root=root)
@@ -104,9 +108,9 @@ def record(name, sum, *files):
     asked("record", name, sum, *(it for it in files if (ROOT / "crates" / name / "out" / it).exists()))
 
 
-def is_built(name, file=RLIB):
-    """Whether a file in a crate's folder `out` was built in this tree, from exactly the sources that are here now."""
-    return subprocess.run(words_in_launch("is_up_to_date", name, file), stdin=subprocess.DEVNULL).returncode == 0
+def is_built(name, file=None):
+    """Whether a file in a crate's folder `out`, or its library, was built in this tree from exactly the sources that are here now."""
+    return subprocess.run(words_in_launch("is_up_to_date", name, file or mark_of_rlib(name)), stdin=subprocess.DEVNULL).returncode == 0
 
 
 def reject_committed_builds():
