@@ -1,8 +1,8 @@
 #!/usr/bin/env python3
 """Tests the prebuilt library and programs as a user without the toolchain has them: in a clone of the tree without any build, and with a
 PATH that has no rt. It gets the first answer. In Rust it tries the example, the tests, a crate of its own with the library by path, by git
-and vendored, and the package; in C and C++, pkg-config and CMake, linked statically and dynamically. A changed byte, a changed source and
-a library of another version must be rejected.
+and vendored, and the package; in C and C++, pkg-config and CMake, linked statically and dynamically, and with musl. A changed byte, a
+changed source and a library of another version must be rejected.
 
 Tests that need git, cargo, pkg-config, cmake or a compiler are skipped if it is missing. ./dist --compare compares the bits with those
 that the sources give."""
@@ -309,6 +309,18 @@ class InRust(PackTest):
         self.assertIn(f", {self.proved}", self.passes([*self.cargo_run, "--example", "sender"], cwd=unpacked))
         for it in "LICENSE-APACHE", "LICENSE-MIT", "NOTICE":
             self.assertEqual((unpacked / it).read_bytes(), (ROOT / it).read_bytes(), it)
+
+
+class WithMusl(PackTest):
+    """The archive with another C library than glibc."""
+
+    needs = ("musl-gcc",)
+
+    @tree.each([(source, how) for how in ("static", "dynamic") for source in ("main", "handshake", "sender", "transfer", "tunnel", "static_memory")], "{0}.c {1}")
+    def test_program(self, source, how):
+        program = self.folder / source
+        self.passes(["musl-gcc", *(["-static"] if how == "static" else []), "-O2", f"rust/c/{source}.c", ARCHIVE, "-o", program])
+        self.assertEqual(PLACE.ran([program]), (0, (ROOT / "rust" / "c" / f"{source}.out").read_text(), ""))
 
 
 class Installed(PackTest):

@@ -8,8 +8,8 @@ with a library of another layout, and with hostile ACK frames, whose cost has a 
     tests/rust.py --library  proves and builds the library if it is older than its sources, and writes its verdict next to it
     tests/rust.py --write    writes the declarations by the library's sources: rust/c/recovery_ffi.h, ffi.rs, event.rs and
                              timer.rs of rust/quic-recovery/src, the table of docs/C.md and the library's layout.rt
+    tests/rust.py -k PART    the tests whose names have this part
 """
-import argparse
 import hashlib
 import os
 import pathlib
@@ -20,6 +20,7 @@ import subprocess
 import sys
 import tempfile
 import textwrap
+import unittest
 
 import tree
 from tree import ROOT
@@ -118,7 +119,6 @@ EXAMPLES = {
         "```",
     ],
 }
-LOGIC = ROOT / "LOGIC"
 SCARCE = 64 << 20  # bytes of address space for what is run with little memory
 NUMBERS = {"u8": "uint8_t", "u16": "uint16_t", "u32": "uint32_t", "u64": "uint64_t", "usize": "size_t", "bool": "bool"}
 
@@ -194,10 +194,6 @@ GROUPS = {
     "SPACE": "The packet number spaces (RFC 9000, 12.3).",
     "TIMER": "The timers of a connection.",
 }
-
-tests = tree.Tests("rust")
-expect = tests.holds
-
 
 # ---- the declarations
 
@@ -722,119 +718,28 @@ def built():
 # ---- what uses it
 
 
-def ran(name, words, scarce=None, fails=False, **how):
-    """What a command printed, if it ended as it should: well, or, with `fails`, with an error."""
-    limit = (lambda: resource.setrlimit(resource.RLIMIT_AS, (scarce, scarce))) if scarce else None
-    status, printed, errors = tree.ran(words, stdin=subprocess.DEVNULL, text=True, preexec_fn=limit, **how)
-    return (printed + errors if fails else printed) if expect(name, (status != 0) == fails, printed + errors) else None
+class RustTest(tree.TestCase):
+    def ran(self, words, scarce=None, **how):
+        """Status, output and errors of a command, if need be with little memory."""
+        limit = (lambda: resource.setrlimit(resource.RLIMIT_AS, (scarce, scarce))) if scarce else None
+        return tree.ran(words, stdin=subprocess.DEVNULL, text=True, preexec_fn=limit, **how)
+
+    def passes(self, words, **how):
+        """The output of a command that ends well."""
+        status, output, errors = self.ran(words, **how)
+        self.assertEqual(status, 0, f"{words}:\n{output}{errors}")
+        return output
+
+    def fails(self, wanted, words, **how):
+        """A command fails, and says why in these words."""
+        status, output, errors = self.ran(words, **how)
+        self.assertNotEqual(status, 0, f"{words}:\n{output}{errors}")
+        self.assertIn(wanted, output + errors)
 
 
 def cargo_with(folder, **more):
     """How cargo is called, over the library of a folder."""
     return {"cwd": RUST, "env": {**os.environ, "QUIC_RECOVERY_LIB": str(folder), "RUSTDOCFLAGS": "-D warnings", "CARGO_TERM_COLOR": "never", **more}}
-
-
-def cargo(folder):
-    """The Rust crate: each test counts."""
-    how = cargo_with(folder)
-    said = ran("cargo test", ["cargo", "test", "--release", "--all-features", "--offline"], **how)
-    tests.passed += sum(int(it) for it in re.findall(r"^test result: ok\. (\d+) passed", said or "", re.M))
-    ran("cargo clippy", ["cargo", "clippy", "--all-targets", "--all-features", "--offline", "--", "-D", "warnings"], **how)
-    ran("the examples", ["cargo", "build", "--release", "--examples", "--offline"], **how)
-    examples = RUST / "target" / "release" / "examples"
-    said = ran("a sender over UDP", [examples / "sender"])
-    expect("it says what it came to", bool(said) and "all 200 were acknowledged" in said, said or "")
-    expect("it says by which logic the library was proved", bool(said) and f", proved with {LOGIC.read_text().strip()}\n" in said, said or "")
-    said = ran("a sender over UDP that loses three of ten datagrams", [examples / "sender", "30"])
-    expect("all of its items are acknowledged", bool(said) and "all 200 were acknowledged" in said, said or "")
-    said = ran("a transfer over UDP", [examples / "transfer", "2000000", "20"])
-    expect("all bytes of it come", bool(said) and "2000000 bytes came, as they were sent" in said, said or "")
-    said = ran("little memory in Rust", [examples / "memory"], scarce=SCARCE)
-    expect("an allocation fails, and all goes on", bool(said) and "out of memory" in said and "goes on" in said, said or "")
-    ran("a second of random events", [examples / "fuzz", "1"])
-    ran("200,000 random steps, compared with a careful peer", [examples / "beside", "7", "200000"])
-    said = ran("the tutorial", [examples / "tutorial"])
-    expect("it prints what docs/TUTORIAL.md shows", said == (RUST / "examples" / "tutorial.out").read_text(), said or "")
-
-
-def hostile(folder):
-    """Hostile ACK frames keep their linear bound, if valgrind is there to count instructions."""
-    if shutil.which("valgrind"):
-        ran("the cost of hostile ACK frames", [ROOT / "bench" / "frames.py", "--quick"], **cargo_with(folder))
-
-
-def without_library():
-    """Without the library, the crate is checked and documented, and its error names what a program needs to link."""
-    with tempfile.TemporaryDirectory() as target, tempfile.TemporaryDirectory() as empty:
-        how = cargo_with(empty, CARGO_TARGET_DIR=target)
-        missing = f"no program links: QUIC_RECOVERY_LIB names {empty}, which has neither libquic_recovery.a nor both {LIBRARY.name} and liblibc_c.a"
-        check = subprocess.run(["cargo", "check", "--all-targets", "--offline"], stderr=subprocess.PIPE, text=True, **how)
-        expect("cargo check without the library", check.returncode == 0 and missing in check.stderr, check.stderr)
-        ran("cargo doc without the library", ["cargo", "doc", "--no-deps", "--all-features", "--offline"], **how)
-        ran("hostile ACK frames fit the crate", [ROOT / "bench" / "frames.py", "--check"], **how)
-        said = ran("no program links without it", ["cargo", "build", "--example", "memory", "--offline"], fails=True, **how)
-        expect("the reason is named", said is not None and missing in said, said or "")
-
-
-def older(folder, made):
-    """A library of another layout does not link."""
-    here, other = (f"recovery_ffi_layout_{it}".encode() for it in (checksum(), "00000000"))
-    (made / LIBRARY.name).write_bytes((folder / LIBRARY.name).read_bytes().replace(here, other))
-    shutil.copy(folder / "liblibc_c.a", made)
-    said = ran("a library of another layout under C", in_c(made, "main.c", made / "older"), fails=True)
-    expect("the layout is named in C", said is not None and here.decode() in said, said or "")
-    how = cargo_with(made, CARGO_TARGET_DIR=str(made / "target"))
-    said = ran("a library of another layout under Rust", ["cargo", "build", "--example", "memory", "--offline"], fails=True, **how)
-    wanted = f"{LIBRARY.name} is of another version of this crate, for it lacks the symbol {here.decode()}"
-    expect("the layout is named in Rust", said is not None and wanted in said, said or "")
-
-
-def frames(folder):
-    """In no function a probe of its frame overwrites a register that is in use: clang takes %r11 for it, also after instructions that set it."""
-    listing = ran("objdump", ["objdump", "-d", "--no-show-raw-insn", "--no-addresses", folder / LIBRARY.name]) or ""
-    functions = re.findall(r"^<(.+)>:\n((?:\t.*\n)+)", listing, re.M)
-    probed = {name: body.split("mov    %rsp,%r11", 1)[0] for name, body in functions if "mov    %rsp,%r11" in body}
-    wrong = [name for name, before in probed.items() if "%r11" in before]
-    expect("the frames of the library", len(functions) > 30 and not wrong, ", ".join(wrong))
-
-
-def layout():
-    ran("cargo fmt", ["cargo", "fmt", "--check"], cwd=RUST)
-    ran("rustfmt of bench/", ["rustfmt", "--edition", "2021", "--check", ROOT / "bench" / "frames.rs"])
-
-
-def ranges():
-    """The numbers of events' answers and errors differ from those that only senders have, which begin at 128."""
-    text = (KEPT / "src" / "numbers.rt").read_text()
-    for group, of_events in ("ANSWER", len(variants(EVENTS, "Answer"))), ("REFUSAL", len(tree.refusals()) + 1):
-        numbers = [int(it) for it in re.findall(rf"^pub const {group}_\w+: u8 = (\d+);", text, re.M)]
-        numbers = sorted(it for it in numbers if group == "REFUSAL" or it >= of_events)
-        apart = of_events <= 128 and numbers and numbers[0] >= 128 and len(set(numbers)) == len(numbers)
-        expect(f"the numbers of {group}_ that senders have lie apart", apart, f"{of_events} of events, {numbers}")
-
-
-def readers():
-    """The exports that guarantee to change nothing: `ReadsHandle` of their contracts."""
-    return {it.group(2) for path in (CRATE / "src").glob("*.rt") for it in EXPORT.finditer(path.read_text()) if "ReadsHandle" in it.group(5)}
-
-
-def shared():
-    """What `&self` permits in Rust are readers, which rust/c/readers.c calls with all memory write-protected: so the types are `Sync`."""
-    called = set(re.findall(r"READ\((recovery_ffi_\w+)\(", (ROOT / "rust" / "c" / "readers.c").read_text()))
-    expect("rust/c/readers.c calls each reader", called == readers(), ", ".join(sorted(called ^ readers())))
-    methods = re.compile(r"^    (?:pub(?:\(crate\))? )?fn (\w+)[^;{]*?\(\s*(&self|&mut self)?.*?^    \}", re.M | re.S)
-    for name in "recovery.rs", "sender.rs", "mtud.rs":
-        found = [it for it in methods.finditer((RUST / "src" / name).read_text()) if it.group(2) == "&self"]
-        changes = {call for it in found for call in re.findall(r"ffi::(recovery_ffi_\w+)\(", it.group()) if call not in readers()}
-        expect(f"what `&self` of {name} permits only reads", bool(found) and not changes, ", ".join(sorted(changes)))
-
-
-def version():
-    """The logic of the toolchain is the one that LOGIC names, and the documents name no other."""
-    logic = LOGIC.read_text().strip()
-    expect("the toolchain's logic", toolchain().endswith(f" {logic}"), toolchain())
-    named = re.findall(r"logic ([0-9a-f]{16})", (ROOT / "docs" / "RUST.md").read_text() + (ROOT / "README.md").read_text())
-    expect("the logic in the documents", bool(named) and all(f"logic {it}" == logic for it in named), str(named))
 
 
 def in_c(folder, source, program):
@@ -845,57 +750,205 @@ def in_c(folder, source, program):
     return [str(it) for it in [*words, f"-L{folder}", "-lrecovery_ffi", "-llibc_c"]]
 
 
-def programs_in_c(folder, made):
+def readers():
+    """The exports that guarantee to change nothing: `ReadsHandle` of their contracts."""
+    return {it.group(2) for path in (CRATE / "src").glob("*.rt") for it in EXPORT.finditer(path.read_text()) if "ReadsHandle" in it.group(5)}
+
+
+class Declared(RustTest):
+    """What needs no library."""
+
+    @tree.each([(which, path.relative_to(ROOT)) for which, path in DECLARED.items()], "{1}")
+    def test_declares_what_the_library_does(self, which, path):
+        self.assertEqual((ROOT / path).read_text(), declarations()[which], "tests/rust.py --write writes it")
+
+    @tree.each([("ANSWER", "Answer"), ("REFUSAL", "Refusal")])
+    def test_numbers_of_senders_lie_apart(self, group, enum):
+        """The numbers of events' answers and errors differ from those that only senders have, which begin at 128."""
+        of_events = len(variants(EVENTS, "Answer")) if enum == "Answer" else len(tree.refusals()) + 1
+        text = (KEPT / "src" / "numbers.rt").read_text()
+        numbers = [int(it) for it in re.findall(rf"^pub const {group}_\w+: u8 = (\d+);", text, re.M)]
+        own = sorted(it for it in numbers if group == "REFUSAL" or it >= of_events)
+        self.assertLessEqual(of_events, 128)
+        self.assertGreaterEqual(own[0], 128)
+        self.assertEqual(len(set(own)), len(own))
+
+    def test_readers_in_c(self):
+        """rust/c/readers.c calls each reader with all memory of the library write-protected."""
+        called = re.findall(r"READ\((recovery_ffi_\w+)\(", (ROOT / "rust" / "c" / "readers.c").read_text())
+        self.assertEqual(sorted(called), sorted(readers()))
+
+    @tree.each(["recovery.rs", "sender.rs", "mtud.rs"])
+    def test_shared_methods_only_read(self, name):
+        """What `&self` permits are readers of the library: so the types are `Sync`."""
+        methods = re.compile(r"^    (?:pub(?:\(crate\))? )?fn (\w+)[^;{]*?\(\s*(&self|&mut self)?.*?^    \}", re.M | re.S)
+        found = [it.group() for it in methods.finditer((RUST / "src" / name).read_text()) if it.group(2) == "&self"]
+        called = {call for it in found for call in re.findall(r"ffi::(recovery_ffi_\w+)\(", it)}
+        self.assertTrue(called)
+        self.assertEqual(called - readers(), set())
+
+    @unittest.skipIf(tree.is_toolchain_missing(), "rt is missing")
+    def test_logic(self):
+        """The logic of the toolchain is the one that LOGIC names."""
+        self.assertTrue(toolchain().endswith(f" {tree.logic()}"), toolchain())
+
+    def test_logic_in_documents(self):
+        named = re.findall(r"logic ([0-9a-f]{16})", (ROOT / "docs" / "RUST.md").read_text() + (ROOT / "README.md").read_text())
+        self.assertEqual({f"logic {it}" for it in named}, {tree.logic()})
+
+    def test_cargo_fmt(self):
+        self.passes(["cargo", "fmt", "--check"], cwd=RUST)
+
+    def test_rustfmt_of_bench(self):
+        self.passes(["rustfmt", "--edition", "2021", "--check", ROOT / "bench" / "frames.rs"])
+
+
+class WithoutLibrary(RustTest):
+    """Without the library, the crate is checked and documented, and its error names what a program needs to link."""
+
+    @classmethod
+    def setUpClass(cls):
+        cls.target, cls.empty = tempfile.TemporaryDirectory(), tempfile.TemporaryDirectory()
+        cls.addClassCleanup(cls.target.cleanup)
+        cls.addClassCleanup(cls.empty.cleanup)
+        cls.how = cargo_with(cls.empty.name, CARGO_TARGET_DIR=cls.target.name)
+        names = f"neither libquic_recovery.a nor both {LIBRARY.name} and liblibc_c.a"
+        cls.missing = f"no program links: QUIC_RECOVERY_LIB names {cls.empty.name}, which has {names}"
+
+    def test_cargo_check(self):
+        status, _, errors = self.ran(["cargo", "check", "--all-targets", "--offline"], **self.how)
+        self.assertEqual(status, 0, errors)
+        self.assertIn(self.missing, errors)
+
+    def test_cargo_doc(self):
+        self.passes(["cargo", "doc", "--no-deps", "--all-features", "--offline"], **self.how)
+
+    def test_hostile_frames_fit_the_crate(self):
+        self.passes([ROOT / "bench" / "frames.py", "--check"], **self.how)
+
+    def test_no_program_links(self):
+        self.fails(self.missing, ["cargo", "build", "--example", "memory", "--offline"], **self.how)
+
+
+class WithLibrary(RustTest):
+    """Tests over the library, in a folder with what it needs of the toolchain."""
+
+    @classmethod
+    def setUpClass(cls):
+        if not built():
+            raise tree.Unfit("the library is not built")
+        folder = tempfile.TemporaryDirectory()
+        cls.addClassCleanup(folder.cleanup)
+        cls.folder = pathlib.Path(folder.name)
+        shutil.copy(LIBRARY, cls.folder)
+        shutil.copy(tree.kit() / "c" / "liblibc_c.a", cls.folder)
+
+    def setUp(self):
+        made = tempfile.TemporaryDirectory()
+        self.addCleanup(made.cleanup)
+        self.made = pathlib.Path(made.name)
+
+
+class Library(WithLibrary):
+    def test_frames(self):
+        """In no function a probe of its frame overwrites a register that is in use: clang takes %r11 for it, also after instructions that set it."""
+        listing = self.passes(["objdump", "-d", "--no-show-raw-insn", "--no-addresses", self.folder / LIBRARY.name])
+        functions = re.findall(r"^<(.+)>:\n((?:\t.*\n)+)", listing, re.M)
+        probed = {name: body.split("mov    %rsp,%r11", 1)[0] for name, body in functions if "mov    %rsp,%r11" in body}
+        self.assertGreater(len(functions), 30)
+        self.assertEqual([name for name, before in probed.items() if "%r11" in before], [])
+
+    @unittest.skipUnless(shutil.which("valgrind"), "valgrind is missing")
+    def test_cost_of_hostile_frames(self):
+        """Hostile ACK frames keep their linear bound."""
+        self.passes([ROOT / "bench" / "frames.py", "--quick"], **cargo_with(self.folder))
+
+    def other_layout(self):
+        """A folder with a library of another layout, and the symbol that it lacks."""
+        here, other = (f"recovery_ffi_layout_{it}".encode() for it in (checksum(), "00000000"))
+        data = (self.folder / LIBRARY.name).read_bytes()
+        self.assertIn(here, data)
+        (self.made / LIBRARY.name).write_bytes(data.replace(here, other))
+        shutil.copy(self.folder / "liblibc_c.a", self.made)
+        return here.decode()
+
+    def test_other_layout_in_c(self):
+        self.fails(self.other_layout(), in_c(self.made, "main.c", self.made / "other"))
+
+    def test_other_layout_in_rust(self):
+        wanted = f"{LIBRARY.name} is of another version of this crate, for it lacks the symbol {self.other_layout()}"
+        how = cargo_with(self.made, CARGO_TARGET_DIR=str(self.made / "target"))
+        self.fails(wanted, ["cargo", "build", "--example", "memory", "--offline"], **how)
+
+
+class Cargo(WithLibrary):
+    """The Rust crate."""
+
+    # the name of a test, the words with which an example is run, and what it prints then
+    examples = [
+        ("a sender over UDP", ["sender"], "all 200 were acknowledged"),
+        ("the logic", ["sender"], f", proved with {tree.logic()}\n"),
+        ("a sender that loses three of ten datagrams", ["sender", "30"], "all 200 were acknowledged"),
+        ("a transfer over UDP", ["transfer", "2000000", "20"], "2000000 bytes came, as they were sent"),
+        ("a second of random events", ["fuzz", "1"], ""),
+        ("200,000 random steps, compared with a careful peer", ["beside", "7", "200000"], ""),
+    ]
+
+    def example(self, name):
+        self.passes(["cargo", "build", "--release", "--example", name, "--offline"], **cargo_with(self.folder))
+        return RUST / "target" / "release" / "examples" / name
+
+    def test_tests(self):
+        said = self.passes(["cargo", "test", "--release", "--all-features", "--offline"], **cargo_with(self.folder))
+        self.assertGreater(sum(int(it) for it in re.findall(r"^test result: ok\. (\d+) passed", said, re.M)), 100)
+
+    def test_clippy(self):
+        self.passes(["cargo", "clippy", "--all-targets", "--all-features", "--offline", "--", "-D", "warnings"], **cargo_with(self.folder))
+
+    @tree.each(examples)
+    def test_example(self, title, words, wanted):
+        self.assertIn(wanted, self.passes([self.example(words[0]), *words[1:]]))
+
+    def test_little_memory(self):
+        said = self.passes([self.example("memory")], scarce=SCARCE)
+        self.assertIn("out of memory", said)
+        self.assertIn("goes on", said)
+
+    def test_tutorial(self):
+        """It prints what docs/TUTORIAL.md shows."""
+        self.assertEqual(self.passes([self.example("tutorial")]), (RUST / "examples" / "tutorial.out").read_text())
+
+
+class ProgramsInC(WithLibrary):
     """The programs in C and C++: each prints what the file next to it has."""
-    for source in (*PROGRAMS_IN_C, "misuse.c", "static_memory.c", "readers.c", "main.cpp"):
-        program = made / source.replace(".", "_")
-        if ran(f"{source} is compiled", in_c(folder, source, program)) is not None:
-            found = ran(f"{source} ends well", [program])
-            wanted = (ROOT / "rust" / "c" / f"{source.removesuffix('.c').replace('.', '_')}.out").read_text()
-            expect(f"what {source} prints", found == wanted, f"{found}\nand not\n{wanted}")
-            if shutil.which("valgrind"):
-                words = ["valgrind", "--leak-check=full", "--error-exitcode=9", program]
-                ran(f"no leak in {source}, and no access that is not its own", words)
 
-
-def choice():
-    """What of it is asked for; nothing else is taken for a wish to prove the library."""
-    parser = argparse.ArgumentParser(description=__doc__, formatter_class=argparse.RawDescriptionHelpFormatter)
-    for it in "declared", "library", "write":
-        parser.add_argument(f"--{it}", dest="choice", action="store_const", const=it, help=argparse.SUPPRESS)
-    return tree.arguments(parser).choice
+    @tree.each([*PROGRAMS_IN_C, "misuse.c", "static_memory.c", "readers.c", "main.cpp"])
+    def test_program(self, source):
+        program = self.made / "program"
+        self.passes(in_c(self.folder, source, program))
+        wanted = (ROOT / "rust" / "c" / f"{source.removesuffix('.c').replace('.', '_')}.out").read_text()
+        self.assertEqual(self.passes([program]), wanted)
+        if shutil.which("valgrind"):
+            # no leak, and no access that is not its own
+            self.passes(["valgrind", "--leak-check=full", "--error-exitcode=9", program])
 
 
 def main():
-    chosen = choice()
-    written = declarations()
-    if chosen == "write":
+    words = sys.argv[1:]
+    if words == ["--write"]:
+        written = declarations()
         for which, path in DECLARED.items():
             path.write_text(written[which])
         return 0
-    if chosen == "library":
+    if words == ["--library"]:
         return 0 if built() else 1
-    for which, path in DECLARED.items():
-        expect(f"{path.relative_to(ROOT)} is what the library declares", path.read_text() == written[which], "tests/rust.py --write writes it")
-    ranges()
-    shared()
-    version()
-    layout()
-    without_library()
-    if chosen != "declared" and expect("the library", built()):
-        with tempfile.TemporaryDirectory() as libraries, tempfile.TemporaryDirectory() as programs:
-            folder, made = pathlib.Path(libraries), pathlib.Path(programs)
-            shutil.copy(LIBRARY, folder)
-            shutil.copy(tree.kit() / "c" / "liblibc_c.a", folder)
-            frames(folder)
-            cargo(folder)
-            hostile(folder)
-            programs_in_c(folder, made)
-            older(folder, made)
-    tests.end()
+    if "--declared" in words:
+        words = [it for it in words if it != "--declared"] + ["Declared", "WithoutLibrary"]
+    return tree.main("rust", words)
 
 
-try:
-    sys.exit(main())
-except tree.Unfit as why:
-    sys.exit(f"rust: {why}")
+if __name__ == "__main__":
+    try:
+        sys.exit(main())
+    except tree.Unfit as why:
+        sys.exit(f"rust: {why}")
