@@ -368,6 +368,14 @@ mod tests {
         }
     }
 
+    /// quinn 0.9 asks for `Send` of a controller, and quinn 0.11 for `Sync` too.
+    #[test]
+    fn controllers_are_send_and_sync() {
+        fn is_send_and_sync<T: Send + Sync>() {}
+        is_send_and_sync::<NewReno>();
+        is_send_and_sync::<Cubic>();
+    }
+
     #[test]
     fn a_copy_continues_alike() {
         for (window, persistent) in [
