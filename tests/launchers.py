@@ -167,22 +167,15 @@ def git(place, *words):
 
 
 @contextlib.contextmanager
-def restored(path):
-    """A file that gets its text back."""
-    text = path.read_bytes()
-    try:
-        yield text
-    finally:
-        path.write_bytes(text)
-
-
-@contextlib.contextmanager
 def changed(path):
     """A file with one line more, and with an older time, as an archive or rsync leaves it."""
-    with restored(path) as text:
-        path.write_bytes(text + b"// changed\n")
-        os.utime(path, (0, 0))
+    text = path.read_bytes()
+    path.write_bytes(text + b"// changed\n")
+    os.utime(path, (0, 0))
+    try:
         yield
+    finally:
+        path.write_bytes(text)
 
 
 @contextlib.contextmanager
@@ -207,6 +200,13 @@ class Placed(tree.TestCase):
     @classmethod
     def prepare(cls):
         """Makes what the tests of a class have in their copy."""
+
+    def begin(self, *words):
+        """Starts a command, which ends with its test at the latest."""
+        call = self.place.begun(*words)
+        self.addCleanup(call.__exit__, None, None, None)  # closes its streams, and waits
+        self.addCleanup(lambda: call.poll() is None and os.killpg(call.pid, signal.SIGKILL))
+        return call
 
     def run_launcher(self, name, **more):
         return self.place.ran(f"./{name}", *WORDS[name], **more)
@@ -278,9 +278,9 @@ class MinutesLeft(tree.TestCase):
 
 class TwoAtOnce(Placed):
     def test_second_waits(self):
-        first = self.place.begun("./prove", "--jobs", "1", "recovery_paths")
+        first = self.begin("./prove", "--jobs", "1", "recovery_paths")
         self.assertTrue(waited_for(lambda: list(self.place.root.glob("out/prove/*/crates/*/out"))), "the first ./prove begins")
-        second = self.place.begun("./prove", "--jobs", "1", "recovery_queue")
+        second = self.begin("./prove", "--jobs", "1", "recovery_queue")
         waits = f"prove: ./prove (process {first.pid}) works in this tree; this one goes on when that has ended\n"
         self.assertEqual(second.stderr.readline(), waits)
         for call, name in (first, "recovery_paths"), (second, "recovery_queue"):
@@ -315,9 +315,9 @@ class Interrupted(Placed):
     def test_check(self, _, ends):
         started = self.place.started
         started.unlink(missing_ok=True)
-        call = self.place.begun("./check")
+        call = self.begin("./check")
         self.assertTrue(waited_for(lambda: started.is_file() and started.read_text().endswith("\n")), "rt ci begins")
-        second = self.place.begun("./prove", "recovery_queue")
+        second = self.begin("./prove", "recovery_queue")
         waits = f"prove: ./check (process {call.pid}) works in this tree; this one goes on when that has ended\n"
         self.assertEqual(second.stderr.readline(), waits)
         inner = self.place.ran("./prove", "recovery_base", **{tree.WORKS_IN: str(self.place.root.resolve())})
@@ -485,7 +485,8 @@ class Built(Placed):
 
     @classmethod
     def prepare(cls):
-        cls.programs = {crate: cls.place.build(crate) for crate in LAUNCHERS.values()}
+        for crate in LAUNCHERS.values():
+            cls.place.build(crate)
 
     def proved(self, name):
         return 3, f"the program ran: {' '.join(WORDS[name])}\n", ""
@@ -527,9 +528,9 @@ class Built(Placed):
 
     @tree.each(LAUNCHERS.items())
     def test_replaced_program(self, name, crate):
-        with restored(self.programs[crate]):
-            self.place.script(self.programs[crate], "another program ran")
-            self.assertEqual(self.run_launcher(name), self.unproved(name, crate, "changed since it was proved"))
+        self.addCleanup(self.place.build, crate)
+        self.place.script(self.place.root / "crates" / crate / "out" / crate, "another program ran")
+        self.assertEqual(self.run_launcher(name), self.unproved(name, crate, "changed since it was proved"))
 
     @tree.each(LAUNCHERS.items())
     def test_folder_whose_name_has_a_quote(self, name, crate):
@@ -581,8 +582,12 @@ class Prebuilt(Placed):
         why = f"prebuilt/{tree.TARGET}/bin/{name} was built from other sources than those here"
         with changed(self.place.root / "crates" / "recovery_base" / "src" / "time.rt"):
             self.assertEqual(self.run_launcher(name), self.unproved(name, crate, why))
-            with hidden(self.place.toolchain):
-                self.assertEqual(self.run_launcher(name), (1, "", f"{name}: {why}, and {MISSING}"))
+
+    @tree.each(LAUNCHERS)
+    def test_another_source_without_toolchain(self, name):
+        why = f"prebuilt/{tree.TARGET}/bin/{name} was built from other sources than those here"
+        with changed(self.place.root / "crates" / "recovery_base" / "src" / "time.rt"), hidden(self.place.toolchain):
+            self.assertEqual(self.run_launcher(name), (1, "", f"{name}: {why}, and {MISSING}"))
 
     @tree.each(LAUNCHERS.items())
     def test_changed_program(self, name, crate):
