@@ -332,7 +332,8 @@ pub enum TimerState {
 /// The reply and effect of each call are proved, and the promises of a recovery hold too. A call that fails changes
 /// nothing, unless its documentation says otherwise; memory for an answer is allocated first. After each call,
 /// [`Sender::timer`] is when to call [`Sender::on_timeout`]. Sums of times and durations are capped at their largest
-/// values. The examples of the calls begin as this one does:
+/// values. The examples of the calls begin as this one does, with a clock that starts above 0 ([`Sender::new`] says
+/// why):
 ///
 /// ```
 /// use quic_recovery::*;
