@@ -1,25 +1,26 @@
 #!/usr/bin/env python3
 """Runs each command of docs/EXPERIMENTS.md, in its order. Each must end with status 0, print the figures that follow it on the page, and draw the
-picture that the documents have of it, if any. Commands that draw with matplotlib are left out if it is missing. Prints the time of the slowest.
+picture that the documents have of it, if any. If matplotlib is missing, a module stands for it. Prints the time of the slowest command.
 
-An argument is a folder of other programs to try in place of the launchers."""
+The tools of these commands also get files and arguments that they cannot use (tests/hostile.py).
+
+`--programs FOLDER` tests other programs in place of the launchers."""
+import argparse
 import os
 import pathlib
 import re
-import sys
 import tempfile
 import time
 import xml.etree.ElementTree as xml
 
 import tree
+from hostile import Calls2Events, Ladder, Plot, Sweep, with_matplotlib  # noqa: F401
 from tree import ROOT
 
 PAGE = (ROOT / "docs" / "EXPERIMENTS.md").read_text()
 PICTURES = ROOT / "docs" / "pictures"
 NAMES = "recovery-link", "recovery-sender", "recovery-pictures"
-
-tests = tree.Tests("experiments")
-expect = tests.expect
+PROGRAMS = ROOT
 
 
 def commands():
@@ -33,43 +34,53 @@ def commands():
     return found
 
 
-def drawn(folder):
-    for file in sorted(folder.glob("*.svg")):
-        text = file.read_text()
-        expect(f"{file.name}: a picture", xml.fromstring(text).tag, "{http://www.w3.org/2000/svg}svg")
-        shown = PICTURES / file.name
-        if f"](pictures/{file.name})" in PAGE:
-            expect(f"{file.name}: as the documents have it", text, shown.read_text())
+COMMANDS = commands()
+SHOWN = re.findall(r"\]\(pictures/([^)]+\.svg)\)", PAGE)
 
 
 def may_plot():
     return tree.ran(["python3", "-c", "import matplotlib"])[0] == 0
 
 
-def run(folder, programs):
-    for name in NAMES:
-        os.symlink(programs / name, folder / name)
-    for name in "tools", "examples":
-        os.symlink(ROOT / name, folder / name)
-    plots, took = may_plot(), []
-    how = {"cwd": folder, "text": True, "env": {**os.environ, **({} if programs == ROOT else {"RECOVERY_LINK": str(programs / "recovery-link")})}}
-    for line, wanted in commands():
-        if line.startswith("tools/plot") and not plots:
-            continue
+class Commands(tree.TestCase):
+    """Each command uses what those before it wrote, so all run once, in the order of the page."""
+
+    @classmethod
+    def setUpClass(cls):
+        folder = tempfile.TemporaryDirectory()
+        cls.addClassCleanup(folder.cleanup)
+        cls.folder, cls.results = pathlib.Path(folder.name), {}
+        cls.environment = {**(os.environ if may_plot() else with_matplotlib(cls.folder))}
+        if PROGRAMS != ROOT:
+            cls.environment["RECOVERY_LINK"] = str(PROGRAMS / "recovery-link")
+        for name, target in [(it, PROGRAMS / it) for it in NAMES] + [(it, ROOT / it) for it in ("tools", "examples")]:
+            os.symlink(target, cls.folder / name)
+        took = [(cls.run_command(line), line) for line, _ in COMMANDS]
+        print(f"experiments: {sum(it for it, _ in took):.1f} s; the slowest took {max(took)[0]:.1f} s: {max(took)[1]}", flush=True)
+
+    @classmethod
+    def run_command(cls, line):
+        """Keeps the status of a command, and the lines that it writes. Returns the seconds that it takes."""
         began = time.time()
-        status, output, errors = tree.ran(["timeout", "60", "bash", "-c", line], "", **how)
-        took.append((time.time() - began, line))
-        expect(line, (status, (output + errors).splitlines()), (0, wanted))
-    drawn(folder)
-    print(f"experiments: {sum(it for it, _ in took):.1f} s; the slowest took {max(took)[0]:.1f} s: {max(took)[1]}", flush=True)
+        status, output, errors = tree.ran(["timeout", "60", "bash", "-c", line], "", cwd=cls.folder, text=True, env=cls.environment)
+        cls.results[line] = status, (output + errors).splitlines()
+        return time.time() - began
 
+    @tree.each(COMMANDS)
+    def test_command(self, line, expected):
+        self.assertEqual(self.results[line], (0, expected))
 
-def main():
-    programs = pathlib.Path(sys.argv[1]).resolve() if len(sys.argv) > 1 else ROOT
-    with tempfile.TemporaryDirectory() as folder:
-        run(pathlib.Path(folder), programs)
-    tests.end()
+    @tree.each(zip(SHOWN))
+    def test_picture(self, name):
+        """It is the one that the documents have."""
+        text = (self.folder / name).read_text()
+        self.assertEqual(xml.fromstring(text).tag, "{http://www.w3.org/2000/svg}svg")
+        self.assertEqual(text, (PICTURES / name).read_text())
 
 
 if __name__ == "__main__":
-    main()
+    parser = argparse.ArgumentParser(add_help=False)
+    parser.add_argument("--programs", type=lambda it: pathlib.Path(it).resolve(), default=PROGRAMS)
+    given, words = parser.parse_known_args()
+    PROGRAMS = given.programs
+    tree.main("experiments", words)

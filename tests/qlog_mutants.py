@@ -13,7 +13,8 @@ VALUES = [
     None, True, False, -1, 0, 7, 1.5, -0.5, 2**62 - 1, 2**62, 2**64, 10**30, float("nan"), float("inf"), *NUMBERS,
     "", "x", "1", "1e5", "1\nkeys", " 5", "\u0663", "1RTT", "0RTT", "initial", "retry", "ack", "stream", "crypto", "padding", "expired", "set",
     "delta", "absolute", "us", "transport:packet_sent", "recovery:packet_lost", "recovery:timer_updated", "show", "__init__",
-    [], [1], [[]], [[0, 2**62 - 1]], [[5, 1]], [[0, 1, 2]], [["0", "9"]], {}, {"a": 1}, {"frame_type": "ack"}, {"frame_type": "ack", "acked_ranges": [[0, 9]]},
+    [], [1], [[]], [[0, 2**62 - 1]], [[5, 1]], [[0, 1, 2]], [["0", "9"]], {}, {"a": 1}, {"frame_type": "ack"},
+    {"frame_type": "ack", "acked_ranges": [[0, 9]]},
 ]
 
 
@@ -151,7 +152,8 @@ HOSTILE = [  # a title, the recording, the script, and the last line of errors, 
     ("no type of a frame", trace([sent(frames='{"offset":0}')]), "", "event 1: data.frames[0] has no frame_type"),
     ("a list for a stream", trace([sent(frames='{"frame_type":"stream","stream_id":[1]}')]), "",
      f"event 1: data.frames[0].stream_id is a list, {WHOLE}"),
-    ("numbers that do not increase", trace([sent(number=4), sent(number=4)]), SENT, "event 2: packet 4 is sent after packet 4 of the same packet number space"),
+    ("numbers that do not increase", trace([sent(number=4), sent(number=4)]), SENT,
+     "event 2: packet 4 is sent after packet 4 of the same packet number space"),
     ("2^62 acknowledged numbers", acknowledged(f"[[0,{2**62 - 1}]]"), f"{SENT}ack data 2000000 1000000 0 0 0 ecn 1 0 0\n", None),
     ("ranges in one another", acknowledged("[[0,9],[0],[0,3]]"), f"{SENT}ack data 2000000 1000000 0 0 0 ecn 1 0 0\n", None),
     ("an empty range", acknowledged("[[]]"), SENT,

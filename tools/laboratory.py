@@ -10,6 +10,7 @@ import threading
 ROOT = pathlib.Path(__file__).resolve().parent.parent
 LAST = 2**64 - 1  # the largest number in a line of the programs, and the end of their clock
 SHOWN = 40  # characters of a text that cannot be read
+NO_XML = re.compile(r"[^\t\n\r\x20-\ud7ff\ue000-\ufffd\U00010000-\U0010ffff]")  # characters that a picture of XML cannot have
 WHICH = """. "$0"
 own=$root/crates/$1/out/$1
 if [[ -x $own ]] && is_up_to_date "$1" "$1"; then
@@ -41,6 +42,11 @@ class Stopped(KeyboardInterrupt):
 def shown(text):
     """A text of others for an error: escaped, and not longer than a few words."""
     return ascii(text if len(text) <= SHOWN else f"{text[:SHOWN]}..")
+
+
+def drawable(text):
+    """A text of others for a picture: without characters that XML does not have."""
+    return NO_XML.sub("\N{REPLACEMENT CHARACTER}", text)
 
 
 def whole(text, largest=LAST):
