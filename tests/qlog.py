@@ -62,8 +62,8 @@ SCHEMA = {
     "recovery:packet_lost": {"header": HEADER, "trigger?": {"reordering_threshold", "time_threshold", "pto_expired"}},
     "recovery:marked_for_retransmit": {"frames": [STREAM]},
 }
-TRACE = {"vantage_point": {"type": {"client", "unknown"}}, "common_fields": {"time_format": {"relative"}, "reference_time": COUNT}}
-FIRST = {"qlog_version": {"0.3"}, "qlog_format": {"JSON-SEQ"}, "title": {"recovery-link", "recovery-trace"}, "trace": TRACE}
+TRACE_FIELDS = {"vantage_point": {"type": {"client", "unknown"}}, "common_fields": {"time_format": {"relative"}, "reference_time": COUNT}}
+FIRST = {"qlog_version": {"0.3"}, "qlog_format": {"JSON-SEQ"}, "title": {"recovery-link", "recovery-trace"}, "trace": TRACE_FIELDS}
 
 BAD = [  # a title, a recording, the lines of its script, and the error, whose end is Python's
     ("nothing", "", "", "the recording is no JSON, or is cut off"),
