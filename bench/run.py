@@ -17,6 +17,7 @@ A '*' marks instructions that differ by more than 5% between the numbers of line
 """
 import argparse
 import concurrent.futures
+import functools
 import itertools
 import os
 import pathlib
@@ -34,8 +35,6 @@ sys.path.insert(0, str(ROOT / "tests"))
 import alike  # noqa: E402
 import tree  # noqa: E402
 
-SCRIPT = ROOT / "recovery-replay"
-PROGRAM = ROOT / "crates" / "recovery_program" / "out" / "recovery_program"
 CAREFUL = ROOT / "tests" / "careful"
 FORMS = ["careful", "listed", "plain"]  # the programs there
 SPACES = ["initial", "handshake", "data"]
@@ -441,9 +440,17 @@ def write_lines(an_input, count, script):
         out.writelines(line + "\n" for line in itertools.islice(an_input.lines(), count))
 
 
-def instructions(script, folder, program=PROGRAM):
+@functools.lru_cache(maxsize=None)
+def replay():
+    """The program that was proved from the sources here, or else the prebuilt one of these sources."""
+    if tree.is_built("recovery_program", "recovery_program"):
+        return tree.built_program("recovery_program")
+    return tree.prebuilt("recovery_program", "bin/recovery-replay")
+
+
+def instructions(script, folder, program=None):
     """All that the process executes, its start among them."""
-    command = ["valgrind", "--tool=callgrind", f"--callgrind-out-file={folder / 'callgrind.out'}", program]
+    command = ["valgrind", "--tool=callgrind", f"--callgrind-out-file={folder / 'callgrind.out'}", program or replay()]
     with open(script, "rb") as lines:
         run = subprocess.run(command, stdin=lines, stdout=subprocess.DEVNULL, stderr=subprocess.PIPE, check=True)
     return int(re.search(rb"Collected : (\d+)", run.stderr).group(1))
@@ -453,7 +460,7 @@ def peak_memory(script, folder):
     """The peak memory of the process, in bytes."""
     report = folder / "peak"
     with open(script, "rb") as lines:
-        subprocess.run(["time", "-f", "%M", "-o", report, PROGRAM], stdin=lines, stdout=subprocess.DEVNULL, check=True)
+        subprocess.run(["time", "-f", "%M", "-o", report, replay()], stdin=lines, stdout=subprocess.DEVNULL, check=True)
     return int(report.read_text()) * 1024
 
 
@@ -492,7 +499,7 @@ WIDTH = max(len(each.name) for each in INPUTS)
 
 def built(folder):
     """Our program, and those of tests/careful."""
-    programs = [PROGRAM]
+    programs = [replay()]
     for form in FORMS:
         options = ["--edition", "2024", "-C", "opt-level=3", "-C", "lto", "-C", "codegen-units=1", "-C", "panic=abort"]
         subprocess.run(["rustc", *options, CAREFUL / f"{form}.rs", "-o", folder / form], check=True)
@@ -559,24 +566,46 @@ def print_beside(inputs, counts, runs):
     print(f"{'mean':{WIDTH}}{'':9}{gap}{''.join(means[:half])}{gap}{''.join(means[half:])}")
 
 
-def main():
+def above_zero(text):
+    if not re.fullmatch("[1-9][0-9]{0,17}", text):
+        raise argparse.ArgumentTypeError(f"{text!r} is no whole number above 0")
+    return int(text)
+
+
+def arguments():
     options = argparse.ArgumentParser(description=__doc__, formatter_class=argparse.RawDescriptionHelpFormatter)
     options.add_argument("inputs", nargs="*", metavar="INPUT", help="the names of inputs; none: all")
-    options.add_argument("--lines", type=int, nargs="+", help="how many lines are counted")
+    options.add_argument("--lines", type=above_zero, nargs="+", help="how many lines are counted")
     options.add_argument("--quick", action="store_true")
-    options.add_argument("--jobs", type=int, default=1)
+    options.add_argument("--jobs", type=above_zero, default=1)
     options.add_argument("--careful", action="store_true", help="also runs programs of plain Rust: careful, listed and plain")
-    options.add_argument("--runs", type=int, default=15, help="how many, of which the shortest time counts")
+    options.add_argument("--runs", type=above_zero, default=15, help="how many, of which the shortest time counts")
     chosen = options.parse_args()
-    for tool in ["valgrind", "rustc"] if chosen.careful else ["valgrind", "time"]:
-        if not shutil.which(tool):
-            return f"bench/run.py: {tool} is not installed"
     unknown = set(chosen.inputs) - {each.name for each in INPUTS}
     if unknown:
-        return f"bench/run.py: no input has the name {', '.join(sorted(unknown))}"
+        options.error(f"no input has the name {', '.join(sorted(unknown))}")
+    return chosen
+
+
+def missing(tools):
+    """Why nothing can be counted here, or None."""
+    absent = [it for it in tools if not shutil.which(it)]
+    if absent:
+        return f"{absent[0]} is not installed"
+    try:
+        replay()
+    except tree.Unfit as why:
+        return f"{why}; ./prove builds recovery-replay from the sources here"
+    return None
+
+
+def main():
+    chosen = arguments()
+    why = missing(["valgrind", "rustc"] if chosen.careful else ["valgrind", "time"])
+    if why:
+        return f"bench/run.py: {why}"
     inputs = [each for each in INPUTS if each.name in chosen.inputs or not chosen.inputs and (each.quick or not chosen.quick)]
     counts = chosen.lines or ([10**4, 10**5] if chosen.quick else [10**4, 10**5, 10**6])
-    subprocess.run([SCRIPT], stdin=subprocess.DEVNULL, check=True)
     if chosen.careful:
         print_beside(inputs, chosen.lines or [10**5], chosen.runs)
         return 0
@@ -590,4 +619,7 @@ def main():
 
 
 if __name__ == "__main__":
-    sys.exit(main())
+    try:
+        sys.exit(main())
+    except subprocess.CalledProcessError as why:
+        sys.exit(f"bench/run.py: {pathlib.Path(why.cmd[0]).name} ended with status {why.returncode}")
