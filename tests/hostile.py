@@ -1,6 +1,7 @@
 """Tests what tools/calls2events, ladder, sweep and plot do with files and arguments that they cannot use: a sentence, and status 2 if these are
 invalid, 1 if something else fails. It also tests that a signal leaves no run of a sweep. A script stands for recovery-link, and a module with the few
 functions that plot calls for matplotlib. tests/experiments.py runs these tests with those of the commands in the documents."""
+import functools
 import json
 import os
 import pathlib
@@ -91,7 +92,8 @@ class Tool(tree.TestCase):
         self.assertEqual(self.run_tool(*words, **how), (status, "", f"{self.name}: {error}\n"))
 
     def assertStreams(self, *words):
-        """The tool ends with a sentence if its output cannot be written, and without one if nobody reads it."""
+        """The tool ends with a sentence if its output cannot be written or is closed, and without one if nobody reads it."""
+        self.assertSays("standard output is closed", *words, status=1, preexec_fn=functools.partial(os.close, 1))
         with open("/dev/full", "wb") as full:
             self.assertEqual(self.run_tool(*words, stdout=full), (1, None, f"{self.name}: the output cannot be written: No space left on device\n"))
         with tree.unread() as pipe:

@@ -1,4 +1,5 @@
 """Functions that the tools share: how a tool ends, the lines and numbers of what it reads, the path of a program, and what a run of it prints."""
+import gc
 import os
 import pathlib
 import re
@@ -12,11 +13,10 @@ LAST = 2**64 - 1  # the largest number in a line of the programs, and the end of
 SHOWN = 40  # characters of a text that cannot be read
 NO_XML = re.compile(r"[^\t\n\r\x20-\ud7ff\ue000-\ufffd\U00010000-\U0010ffff]")  # characters that a picture of XML cannot have
 WHICH = """. "$0"
-own=$root/crates/$1/out/$1
-if [[ -x $own ]] && is_up_to_date "$1" "$1"; then
-    echo "$own"
-elif is_prebuilt x86_64-unknown-linux-gnu "$1" "bin/$2"; then
-    echo "$root/prebuilt/x86_64-unknown-linux-gnu/bin/$2"
+if [[ -x $root/crates/recovery_link/out/recovery_link ]] && is_up_to_date recovery_link recovery_link; then
+    echo "$root/crates/recovery_link/out/recovery_link"
+elif is_prebuilt x86_64-unknown-linux-gnu recovery_link bin/recovery-link; then
+    echo "$root/prebuilt/x86_64-unknown-linux-gnu/bin/recovery-link"
 fi"""
 
 
@@ -143,15 +143,15 @@ class Runs:
 RUNS = Runs()
 
 
-def program(given=None, crate="recovery_link", name="recovery-link"):
-    """The program that was built from the sources here: a launcher without it compiles at each call, which no sweep bears."""
-    given = given or crate == "recovery_link" and os.environ.get("RECOVERY_LINK")
+def program(given=None):
+    """The recovery-link that was built from the sources here: a launcher without it compiles at each call, which no sweep bears."""
+    given = given or os.environ.get("RECOVERY_LINK")
     if given:
         return given
-    found = subprocess.run(["bash", "-c", WHICH, ROOT / "launch", crate, name], stdin=subprocess.DEVNULL, stdout=subprocess.PIPE, text=True).stdout
+    found = subprocess.run(["bash", "-c", WHICH, ROOT / "launch"], stdin=subprocess.DEVNULL, stdout=subprocess.PIPE, text=True).stdout.strip()
     if not found:
-        raise Failed(f"{name} is not built from the sources here: ./prove {crate} builds it")
-    return found.strip()
+        raise Failed("recovery-link is not built from the sources here: ./prove recovery_link builds it, or --program names another")
+    return found
 
 
 def ran(program, words):
@@ -202,11 +202,12 @@ def discard_output():
 
 def finished(main):
     """Runs a tool, and writes all its output, also if it fails."""
+    if not sys.stdout:
+        raise Failed("standard output is closed")
     try:
         main()
     finally:
-        if sys.stdout:
-            sys.stdout.flush()
+        sys.stdout.flush()
 
 
 def status_of(name, main):
@@ -237,6 +238,7 @@ def ends(name, main):
     """Runs a tool, whose only output in its own words is text or SVG in UTF-8. If it fails it says why in one sentence. Its status is then 2 if
     arguments or an input cannot be read, else 1. If a signal ends it, or nobody reads its output any more, the status is the one that shells
     report for that signal."""
+    gc.disable()  # what a tool reads has no cycles; looking for them would take half of the time
     for stream in filter(None, (sys.stdout, sys.stderr)):
         stream.reconfigure(encoding="utf-8", errors="backslashreplace")
     for it in signal.SIGTERM, signal.SIGHUP:
