@@ -8,16 +8,16 @@ reasons.
     tests/quicgo.py             all of it, in out/quicgo: 11 minutes, most of it waiting. Needs the library (prebuilt,
                                 or tests/rust.py --library; QUIC_RECOVERY_LIB names a folder with another), a C compiler
                                 and the packages; if these are missing, it says so and fails
-    tests/quicgo.py PART..      some of unit (quic-go's unit tests), suite (its integration tests), shadow, transfer; or
-                                cost: what a packet takes both ways; or sites: in shadow, each of the places left out in
-                                turn, and quic-go as it is
+    tests/quicgo.py PART..      some of edits, unit (quic-go's unit tests), suite (its integration tests), shadow,
+                                transfer; or cost: what a packet takes both ways; or sites: in shadow, each of the
+                                places left out in turn, and quic-go as it is
     tests/quicgo.py --turns N   runs suite N times, and shadow N times as long with other random numbers
     tests/quicgo.py --write     writes edits and Go files, by what is in out/quicgo/proved
 
 The repository has no line of theirs: an edit names their lines by number, in the form of `diff -e`, and has only ours.
 """
-import argparse
 import collections
+import functools
 import hashlib
 import os
 import pathlib
@@ -28,7 +28,7 @@ import sys
 
 import tree
 from tree import ROOT
-from upstream import edit, edited, files_of, without_theirs, write
+from upstream import edit, edited, files_of, lines_of_theirs, parsed, plain_lines, write
 
 PACKAGES = ["golang-1.19-go", "golang-github-lucas-clemente-quic-go-dev"]
 VERSION = "0.29.0-"
@@ -38,6 +38,7 @@ PLACE = "src/github.com/lucas-clemente/quic-go"
 GO = "usr/lib/go-1.19/bin/go"
 AS_IT_IS, PROVED = "base", "proved"
 BOTH = [(AS_IT_IS, "as it is"), (PROVED, "over the library")]
+MODES = [("own", "as it is"), ("over", "over the library")]  # of a run of transfers
 OWN = "integrationtests.self.self_suite_test.go.ed"  # of quic-go as it is: Debian leaves its integration tests out
 FILES = {"glue": "internal/ackhandler", "shadow": "internal/ackhandler", "run": "shadowrun"}
 ELSEWHERE = {"shadow/align.go": "internal/utils"}
@@ -52,6 +53,7 @@ ATTEMPTS = 3  # of a spec: those with lost packets or short times fail now and t
 PLACES = 13  # in which quic-go can be made to go by RFC 9002
 ALL = 2**PLACES - 1
 WANTED = 5_000_000  # values that are compared
+MORE_TURNS = 9  # at most, until these are
 PATIENCE = ["-idle", "180s", "-limit", "300s"]  # with 40 % of a handshake lost, timeouts may double up to a minute
 HANDSHAKES = "-conns 200 -size 20000 -hsloss 40 -loss 2 -workers 25"
 TRANSFERS = [
@@ -76,7 +78,7 @@ SEEN = [  # what these bring about, and what is compared of it
     *(f"timeout: 2 probes, mode {mode}" for mode in (2, 3, 4)),
 ]
 
-tests = tree.Tests("quicgo")
+TURNS = 1  # which --turns sets
 
 
 def tell(text):
@@ -131,7 +133,7 @@ def edits(which):
 
 def place(name):
     """The file that an edit is of: its name has a point for each slash."""
-    parts = name.removesuffix(".ed").split(".")
+    parts = name[:-len(".ed")].split(".")
     return "/".join(parts[:-2] + [".".join(parts[-2:])])
 
 
@@ -176,9 +178,12 @@ def written(theirs):
 class Go:
     """The compiler, and the programs that it makes of both trees."""
 
-    def __init__(self, theirs, go):
-        self.go, self.libraries = go, linked()
+    def __init__(self):
+        theirs, self.go, _ = sources()
+        self.libraries = linked()
         self.shared = next(it for it in theirs.parents if f"{it}/{PLACE}" == str(theirs))
+        for which, _ in BOTH:
+            lay_out(which, theirs)
 
     def environment(self, which, **more):
         own = ("GOFLAGS", "GOROOT", "QUIC_ALIGN", "QUIC_MODE", "QUIC_RECOVERY_LIB")
@@ -201,31 +206,29 @@ class Go:
         """A program of a tree."""
         program = ROOM / f"{name}.{which}"
         status, said = self.ran(which, words[0], "-o", program, *words[1:])
-        tests.holds(f"{name} is built, {which}", status == 0, said[-4000:])
+        if status != 0:
+            raise tree.Unfit(f"{program.name} is not built: {said[-4000:]}")
         return program
+
+
+@functools.lru_cache(maxsize=None)
+def go():
+    return Go()
 
 
 # ---- what is run
 
 
-def run_unit(go, given):
-    """quic-go's unit tests, in both trees; gofmt and vet of our files."""
-    for which, what in BOTH:
-        more = {"QUIC_MODE": "over"} if which == PROVED else {}
-        _, said = go.ran(which, "test", "-count=1", "-p", "1", "-v", *packages(go, which), **more)
-        ran = len(re.findall(r"^(?:ok|FAIL)\s+github", said, re.M))
-        specs = sum(int(it) for it in re.findall(r"(\d+) Passed", plain(said)))
-        failed = {it.strip() for it in re.findall(r"^\[Fail\] (.*)$", plain(said), re.M)}
-        failed = {re.sub(r" ?\[(?:It|AfterEach)\]", "", it).strip() for it in failed}
-        tests.expect(f"packages with unit tests, {what}", ran, TESTED)
-        tests.expect(f"unit tests of quic-go that fail, {what}", failed, LIMITED if which == PROVED else set())
-        tests.passed += specs
-        tell(f"quic-go {what}: {specs} of its unit tests pass, {len(failed)} fail")
-    status, said = go.ran(PROVED, "vet", "./internal/ackhandler", "./internal/utils", "./shadowrun")
-    tests.holds("go vet", status == 0, said)
-    files = [str(it) for it in ours() if it.suffix == ".go"]
-    format = tree.ran([pathlib.Path(go.go).with_name("gofmt"), "-l", *files], stdin=subprocess.DEVNULL, text=True)[1]
-    tests.expect("what gofmt would change", format, "")
+@functools.lru_cache(maxsize=None)
+def theirs():
+    """The lines of their sources."""
+    return {line for file in sources()[0].rglob("*.go") for line in plain_lines(file)}
+
+
+class Edits(tree.TestCase):
+    @tree.each((it.name, it) for it in sorted((HERE / "edits").glob("*.ed")))
+    def test_no_line_of_theirs(self, _, file):
+        self.assertEqual(lines_of_theirs(file, theirs()), [])
 
 
 def plain(text):
@@ -233,126 +236,200 @@ def plain(text):
     return re.sub(r"\x1b\[[0-9;]*m", "", text)
 
 
-def packages(go, which):
+def packages(which):
     """Those that have tests, without the integration tests, which are a part of their own, and what only measures."""
-    _, said = go.ran(which, "list", "-f", "{{if or .TestGoFiles .XTestGoFiles}}{{.ImportPath}}{{end}}", "./...")
+    _, said = go().ran(which, "list", "-f", "{{if or .TestGoFiles .XTestGoFiles}}{{.ImportPath}}{{end}}", "./...")
     left_out = ("/integrationtests/self", "/benchmark", "/fuzzing/")
     return [it for it in sorted(set(said.split())) if not any(word in it for word in left_out)]
 
 
-def run_suite(go, given):
-    """quic-go's integration tests, in both trees at once: they mostly wait."""
-    programs = {which: go.built(which, "suite", "test", "-c", "./integrationtests/self") for which, _ in BOTH}
-    for turn in range(given.turns):
-        words = ["-test.timeout", "20m", "-ginkgo.noColor", "-ginkgo.flakeAttempts", str(ATTEMPTS)]
-        calls = {which: go.start(which, [programs[which], *words], "integrationtests/self") for which, _ in BOTH}
-        for which, what in BOTH:
-            said = calls[which].communicate()[0]
+@functools.lru_cache(maxsize=None)
+def units(which):
+    """What quic-go's unit tests said in a tree."""
+    more = {"QUIC_MODE": "over"} if which == PROVED else {}
+    return go().ran(which, "test", "-count=1", "-p", "1", "-v", *packages(which), **more)[1]
+
+
+class Unit(tree.TestCase):
+    """quic-go's unit tests, in both trees; gofmt and vet of our files."""
+
+    @tree.each(BOTH, "{1}")
+    def test_packages(self, which, _):
+        self.assertEqual(len(re.findall(r"^(?:ok|FAIL)\s+github", units(which), re.M)), TESTED, units(which)[-4000:])
+
+    @tree.each(BOTH, "{1}")
+    def test_failures(self, which, what):
+        said = plain(units(which))
+        failed = {it.strip() for it in re.findall(r"^\[Fail\] (.*)$", said, re.M)}
+        failed = {re.sub(r" ?\[(?:It|AfterEach)\]", "", it).strip() for it in failed}
+        specs = sum(int(it) for it in re.findall(r"(\d+) Passed", said))
+        tell(f"quic-go {what}: {specs} of its unit tests pass, {len(failed)} fail")
+        self.assertEqual(failed, LIMITED if which == PROVED else set())
+
+    def test_vet(self):
+        status, said = go().ran(PROVED, "vet", "./internal/ackhandler", "./internal/utils", "./shadowrun")
+        self.assertEqual(status, 0, said)
+
+    def test_layout(self):
+        files = [str(it) for it in ours() if it.suffix == ".go"]
+        words = [pathlib.Path(go().go).with_name("gofmt"), "-l", *files]
+        self.assertEqual(tree.ran(words, stdin=subprocess.DEVNULL, text=True), (0, "", ""))
+
+
+@functools.lru_cache(maxsize=None)
+def suites(turn):
+    """Status and output of quic-go's integration tests, in both trees at once: they mostly wait."""
+    programs = {which: go().built(which, "suite", "test", "-c", "./integrationtests/self") for which, _ in BOTH}
+    words = ["-test.timeout", "20m", "-ginkgo.noColor", "-ginkgo.flakeAttempts", str(ATTEMPTS)]
+    calls = {which: go().start(which, [programs[which], *words], "integrationtests/self") for which, _ in BOTH}
+    said = {which: call.communicate()[0] for which, call in calls.items()}
+    return {which: (calls[which].returncode, said[which]) for which, _ in BOTH}
+
+
+class Suite(tree.TestCase):
+    @tree.each(BOTH, "{1}")
+    def test_counts(self, which, what):
+        for turn in range(TURNS):
+            status, said = suites(turn)[which]
             counts = re.search(r"(\d+) Passed \| (\d+) Failed \| (\d+) Flaked \| \d+ Pending \| (\d+) Skipped", said)
             passed, failed, flaked, skipped = map(int, counts.groups()) if counts else (0, 1, 0, 0)
-            found, wanted = (passed, failed, skipped), (SPECS, 0, SKIPPED)
-            tests.expect(f"quic-go's integration tests, {what}: passed, failed, skipped", found, wanted)
-            tests.holds(f"the status of these, {what}", calls[which].returncode == 0, said[-4000:])
-            tests.passed += passed
             tell(f"quic-go {what}: {passed} of its integration tests pass, {flaked} of these at a further attempt")
+            with self.subTest(turn=turn):
+                self.assertEqual((passed, failed, skipped), (SPECS, 0, SKIPPED), said[-4000:])
+
+    @tree.each(BOTH, "{1}")
+    def test_status(self, which, _):
+        for turn in range(TURNS):
+            with self.subTest(turn=turn):
+                self.assertEqual(suites(turn)[which][0], 0, suites(turn)[which][1][-4000:])
 
 
-def transferred(go, words, seed, mode, align=0):
-    """What a run of transfers said: whether all were done, and counts by name."""
-    is_theirs = mode == "own" or (mode == "shadow" and align != ALL)  # quic-go as it is loses a connection now and then
-    words_and_more = [*words.split(), *([] if is_theirs else PATIENCE), "-seed", seed]
-    call = go.start(PROVED, [go.program, *words_and_more], QUIC_MODE=mode, QUIC_ALIGN=str(align))
-    said = call.communicate()[0]
-    counts = collections.Counter()
-    for kind, count, name in re.findall(r"^(event|differ) (\d+) (.*)$", said, re.M):
-        counts[kind, name.partition(", by")[0]] = int(count)
-    number = lambda what: int((re.search(rf"^{what} (\d+)", said, re.M) or [0, 0])[1])
-    done = re.search(r"^done (\d+) failed (\d+) in", said, re.M)
-    ends = call.returncode == 0 and done and (is_theirs or done[2] == "0")
-    tests.holds(f"transfers {words}, {mode}", ends, said[-4000:])
-    return number("values"), number("connections"), counts, said
+@functools.lru_cache(maxsize=None)
+def transfers():
+    """The program that runs transfers."""
+    return go().built(PROVED, "transfers", "build", "./shadowrun")
 
 
-def run_shadow(go, given):
-    """Transfers in shadow, with quic-go made to go by RFC 9002: no value of both differs."""
-    values, connections, counts = 0, 0, collections.Counter()
-    turn = 0
-    while turn < given.turns or values < WANTED:
-        for words in TRANSFERS:
-            more, ends, found, said = transferred(go, words, 1000 * turn + 1, "shadow", ALL)
-            values, connections, counts = values + more, connections + ends, counts + found
-            differ = {name: count for (kind, name), count in found.items() if kind == "differ"}
-            tests.holds(f"in shadow, {words}, turn {turn}: {differ or 'nothing'} differs", not differ, said[:4000])
-        turn += 1
-    for name in SEEN:
-        tests.holds(f"in shadow: {name} comes about", counts["event", name])
-    differ = sum(count for (kind, _), count in counts.items() if kind == "differ")
-    persists, more = (counts["event", f"persistent congestion{it}"] for it in ("", " by the widest reading alone"))
-    tell(f"quic-go in shadow: {values:,} values of both compared, at {connections:,} endpoints, {differ:,} differ")
-    tell(f"persistent congestion {persists} times, and {more} more by the widest reading of RFC 9002")
+class Transferred:
+    """A run of transfers: whether all were done, and what it counted."""
+
+    def __init__(self, words, seed, mode, align=0):
+        is_theirs = mode == "own" or (mode == "shadow" and align != ALL)  # quic-go as it is loses a connection now and then
+        words_and_more = [*words.split(), *([] if is_theirs else PATIENCE), "-seed", seed]
+        call = go().start(PROVED, [transfers(), *words_and_more], QUIC_MODE=mode, QUIC_ALIGN=str(align))
+        self.said = call.communicate()[0]
+        self.counts = collections.Counter()
+        for kind, count, name in re.findall(r"^(event|differ) (\d+) (.*)$", self.said, re.M):
+            self.counts[kind, name.partition(", by")[0]] = int(count)
+        self.done = re.search(r"^done (\d+) failed (\d+) in (\S+)", self.said, re.M)
+        self.is_whole = bool(call.returncode == 0 and self.done and (is_theirs or self.done[2] == "0"))
+
+    def number(self, what):
+        return int((re.search(rf"^{what} (\d+)", self.said, re.M) or [0, 0])[1])
+
+    def differences(self):
+        return {name: count for (kind, name), count in self.counts.items() if kind == "differ"}
 
 
-def run_transfer(go, given):
+@functools.lru_cache(maxsize=None)
+def shadowed(words, turn):
+    """Transfers in shadow, with quic-go made to go by RFC 9002."""
+    return Transferred(words, 1000 * turn + 1, "shadow", ALL)
+
+
+@functools.lru_cache(maxsize=None)
+def all_shadowed():
+    """As many turns as are asked for, and more until enough values are compared."""
+    found = []
+    for turn in range(TURNS + MORE_TURNS):
+        if turn < TURNS or sum(it.number("values") for it in found) < WANTED:
+            found += [shadowed(words, turn) for words in TRANSFERS]
+    return found
+
+
+class Shadow(tree.TestCase):
+    """No value of both differs."""
+
+    @tree.each(TRANSFERS)
+    def test_transfers(self, words):
+        for turn in range(TURNS):
+            with self.subTest(turn=turn):
+                found = shadowed(words, turn)
+                self.assertTrue(found.is_whole, found.said[-4000:])
+                self.assertEqual(found.differences(), {}, found.said[:4000])
+
+    def test_values(self):
+        self.assertEqual([it.said[-4000:] for it in all_shadowed() if not it.is_whole or it.differences()], [])
+        counts = sum((it.counts for it in all_shadowed()), collections.Counter())
+        values, connections = (sum(it.number(what) for it in all_shadowed()) for what in ("values", "connections"))
+        tell(f"quic-go in shadow: {values:,} values of both compared, at {connections:,} endpoints, 0 differ")
+        self.assertGreaterEqual(values, WANTED)
+        persists, more = (counts["event", f"persistent congestion{it}"] for it in ("", " by the widest reading alone"))
+        tell(f"persistent congestion {persists} times, and {more} more by the widest reading of RFC 9002")
+
+    @tree.each(SEEN)
+    def test_comes_about(self, name):
+        self.assertGreater(sum(it.counts["event", name] for it in all_shadowed()), 0)
+
+
+class Transfer(tree.TestCase):
     """The same transfers as it is and over the library: all arrive."""
-    for mode, what in ("own", "as it is"), ("over", "over the library"):
-        said = [transferred(go, words, 1, mode)[3] for words in TRANSFERS]
-        done = [it for text in said for it in re.findall(r"^done (\d+) failed (\d+) in (\S+)$", text, re.M)]
-        count, failed = (sum(int(it[at]) for it in done) for at in (0, 1))
-        tell(f"quic-go {what}: {count} transfers, {failed} fail, in {', '.join(it[2] for it in done)}")
-        said = transferred(go, SEARCH, 1, mode)[3]
-        largest = int((re.search(r"^largest (\d+)$", said, re.M) or [0, 0])[1])
-        tests.holds(f"the largest datagram, {what}: {largest}", largest in FOUND, said)
+
+    @tree.each(((*mode, words) for mode in MODES for words in TRANSFERS), "{1}: {2}")
+    def test_transfers(self, mode, what, words):
+        found = Transferred(words, 1, mode)
+        self.assertTrue(found.is_whole, found.said[-4000:])
+        tell(f"quic-go {what}: {found.done[1]} transfers, {found.done[2]} fail, in {found.done[3]}: {words}")
+
+    @tree.each(MODES, "{1}")
+    def test_largest_datagram(self, mode, _):
+        found = Transferred(SEARCH, 1, mode)
+        self.assertTrue(found.is_whole, found.said[-4000:])
+        self.assertIn(found.number("largest"), FOUND, found.said)
 
 
-def run_sites(go, given):
+class Sites(tree.TestCase):
     """What differs if quic-go is made to go by RFC 9002 in all places but one, and in none."""
-    for bit in [*range(PLACES), None]:
-        align = ALL - (1 << bit) if bit is not None else 0
+
+    @tree.each([*((f"in all places but {1 << bit}", ALL - (1 << bit)) for bit in range(PLACES)), ("nowhere", 0)])
+    def test_aligned(self, which, align):
         counts = collections.Counter()
         for words in TRANSFERS[2:]:
-            counts += transferred(go, words, 1, "shadow", align)[2]
+            found = Transferred(words, 1, "shadow", align)
+            self.assertTrue(found.is_whole, found.said[-4000:])
+            counts += found.counts
         differ = [f"{name} {count}" for (kind, name), count in sorted(counts.items()) if kind == "differ"]
-        which = f"in all places but {1 << bit}" if bit is not None else "nowhere"
         tell(f"quic-go made to go by RFC 9002 {which}: {', '.join(differ) or 'nothing differs'}")
-    tests.passed += 1
 
 
-def run_cost(go, given):
-    """Nanoseconds of a data packet with half an ACK, both ways."""
-    how = ["-run", "NONE", "-bench", ".", "-benchtime", "200000x", "-count", "3"]
-    status, said = go.ran(PROVED, "test", *how, "./internal/ackhandler")
-    tests.holds("the benchmarks", status == 0, said)
-    for line in re.findall(r"^Benchmark.*$", said, re.M):
-        tell(" ".join(line.split()))
+class Cost(tree.TestCase):
+    def test_nanoseconds(self):
+        """Nanoseconds of a data packet with half an ACK, both ways."""
+        how = ["-run", "NONE", "-bench", ".", "-benchtime", "200000x", "-count", "3"]
+        status, said = go().ran(PROVED, "test", *how, "./internal/ackhandler")
+        self.assertEqual(status, 0, said)
+        for line in re.findall(r"^Benchmark.*$", said, re.M):
+            tell(" ".join(line.split()))
 
 
-PARTS = {"unit": run_unit, "suite": run_suite, "shadow": run_shadow, "transfer": run_transfer}
-USUAL = [*PARTS]
-PARTS.update(sites=run_sites, cost=run_cost)
+PARTS = {"edits": "Edits", "unit": "Unit", "suite": "Suite", "shadow": "Shadow", "transfer": "Transfer", "sites": "Sites", "cost": "Cost"}
+USUAL = ["edits", "unit", "suite", "shadow", "transfer"]
 
 
 def main():
-    parser = argparse.ArgumentParser(description=__doc__, formatter_class=argparse.RawDescriptionHelpFormatter)
-    parser.add_argument("parts", nargs="*", choices=[[], *PARTS], metavar="PART", help=argparse.SUPPRESS)
-    parser.add_argument("--turns", type=int, default=1, help=argparse.SUPPRESS)
-    parser.add_argument("--write", action="store_true", help=argparse.SUPPRESS)
-    given = tree.arguments(parser)
-    theirs, compiler, missing = sources()
+    global TURNS
+    given, words = parsed(__doc__, PARTS, USUAL, turns={"type": int, "default": 1}, write={"action": "store_true"})
+    TURNS = given.turns
+    theirs, _, missing = sources()
     if missing:
         sys.exit(f"quicgo: packages are missing: apt-get install {' '.join(missing)}")
     if given.write:
         return written(theirs)
     try:
-        go = Go(theirs, compiler)
+        go()
     except (tree.Unfit, OSError) as why:
         sys.exit(f"quicgo: {why}: tests/rust.py --library builds the library")
-    without_theirs(tests, (HERE / "edits").glob("*.ed"), theirs.rglob("*.go"))
-    for which, _ in BOTH:
-        lay_out(which, theirs)
-    go.program = go.built(PROVED, "transfers", "build", "./shadowrun")
-    for part in given.parts or USUAL:
-        PARTS[part](go, given)
-    tests.end()
+    tree.main("quicgo", words)
 
 
 if __name__ == "__main__":

@@ -5,15 +5,15 @@ over UDP on the loopback interface. In shadow runs, their own parts get the same
 can be read of both are compared. Each part prints its counts. docs/QUINN.md describes the changes and the reasons.
 
     tests/quinn.py            all of it, in out/quinn: ten minutes. Needs the library (tests/rust.py --library), cargo,
-                              and the sources of four packages; if these are missing, it says so and ends
-    tests/quinn.py PART..     some of tests, shadow, transfer; or instructions: what a packet takes with the library and
-                              without it, by valgrind
+                              and the sources of four packages; if these are missing, it says so and fails
+    tests/quinn.py PART..     some of edits, tests, shadow, transfer; or instructions: what a packet takes with the
+                              library and without it, by valgrind
     tests/quinn.py --write    writes edits and glue, by what is in out/quinn/proved
 
 The repository has no line of theirs: an edit names their lines by number, in the form of `diff -e`, and has only ours.
 """
-import argparse
 import collections
+import functools
 import os
 import pathlib
 import re
@@ -23,7 +23,7 @@ import sys
 
 import tree
 from tree import ROOT
-from upstream import edit, edited, files_of, without_theirs, write
+from upstream import edit, edited, files_of, lines_of_theirs, parsed, plain_lines, write
 
 PACKAGES = [f"librust-{it}-dev" for it in ("quinn", "assert-matches", "hex-literal", "tracing-subscriber")]
 CRATES = ["quinn-proto-0.9.2", "quinn-0.9.3"]
@@ -31,6 +31,7 @@ HERE = ROOT / "tests" / "quinn"
 ROOM = ROOT / "out" / "quinn"
 LIBRARY = ROOT / "crates" / "recovery_ffi" / "out" / "librecovery_ffi.a"
 AS_IT_IS, PROVED = "base", "proved"
+BOTH = [(AS_IT_IS, "as it is"), (PROVED, "over the library")]
 MISSING = ["anyhow", "bencher", "clap", "rustls-pemfile", "url"]  # what quinn's examples want, and Debian may lack
 OWN_TESTS = {"quinn_proto": 162, "quinn": 17}
 LINK = "tests::load::"  # our tests over a link
@@ -38,11 +39,11 @@ LINK_TESTS = 11
 MEGABYTES = 100
 LOAD = 3  # how many times as long transfers over the link are in shadow
 TRANSFERS = [  # by which quinn, its controller, and the window at the start
-    (AS_IT_IS, "reno", "as it is"),
-    (PROVED, "reno", "over the library"),
-    (AS_IT_IS, "proved", "with the proved controller"),
-    (AS_IT_IS, "cubic", "with the proved CUBIC"),
-    *((AS_IT_IS, "both", str(window), f"with both from {window} bytes on") for window in (2400, 12000, 100000)),
+    ("as it is", AS_IT_IS, "reno"),
+    ("over the library", PROVED, "reno"),
+    ("with the proved controller", AS_IT_IS, "proved"),
+    ("with the proved CUBIC", AS_IT_IS, "cubic"),
+    *((f"with both from {window} bytes on", AS_IT_IS, "both", str(window)) for window in (2400, 12000, 100000)),
 ]
 
 OFFLINE = """[source.crates-io]
@@ -62,8 +63,6 @@ quinn = { path = "quinn" }
 [profile.release]
 debug = 1
 """
-
-tests = tree.Tests("quinn")
 
 
 def tell(text):
@@ -161,18 +160,10 @@ def passed(said, form):
     return found
 
 
-def run_tests():
-    """Their own tests and ours over the link, with the library and without."""
-    for which, what in (AS_IT_IS, "as it is"), (PROVED, "over the library"):
-        status, said = cargo(which, "test", "-p", "quinn-proto", "-p", "quinn", "--lib", "--no-fail-fast")
-        own, ours = passed(said, f"(?!{LINK})"), passed(said, LINK)["quinn_proto"]
-        failed = re.findall(r"^test (\S+) \.\.\. FAILED$", said, re.M)
-        tests.expect(f"their own tests, {what}; {failed or 'none'} failed", dict(own), OWN_TESTS)
-        tests.expect(f"tests over a simulated link, {what}", ours, LINK_TESTS)
-        tests.holds(f"cargo test, {what}", status == 0, said[-4000:])
-        tests.passed += sum(own.values()) + ours
-        theirs = " and ".join(f"{count} of {crate}" for crate, count in sorted(own.items()))
-        tell(f"quinn {what}: of its own tests {theirs} pass, and {ours} over a simulated link")
+@functools.lru_cache(maxsize=None)
+def tested(which):
+    """What cargo said of their own tests and ours over the link."""
+    return cargo(which, "test", "-p", "quinn-proto", "-p", "quinn", "--lib", "--no-fail-fast")
 
 
 def compared(file):
@@ -187,95 +178,146 @@ def compared(file):
     return rows
 
 
-def shadow(what, *words):
-    """What a shadow run compared, if it ended well."""
+@functools.lru_cache(maxsize=None)
+def shadowed(*words):
+    """Status and output of a shadow run, and what it compared."""
     file = ROOM / "compared.tsv"
     file.unlink(missing_ok=True)
     status, said = cargo(PROVED, *words, QUINN_SHADOW=str(file), QUINN_LOAD=str(LOAD))
-    tests.holds(f"{what} in shadow", status == 0, said[-4000:])
-    rows = compared(file)
-    for name, (often, differed, first) in sorted(rows.items()):
-        tests.holds(f"{what} in shadow: {name}: {differed} of {often} differ", not differed, first)
-    often, differed = (sum(it[at] for it in rows.values()) for at in (0, 1))
-    tests.holds(f"{what} in shadow: values are compared", often > 1_000_000)
-    tell(f"quinn in shadow, {what}: {often:,} values of both compared, {differed:,} differ")
-
-
-def run_shadow():
-    """Their tests and a transfer in shadow: with their own parts in addition to the library."""
-    how = ["--release", "--features", "quinn-proto/shadow"]
-    shadow("the tests", "test", "-p", "quinn-proto", "--lib", *how)
-    shadow("a transfer", "run", "-p", "transfer", *how, "--", str(MEGABYTES), "reno")
-
-
-def run_transfer():
-    """A transfer with the library and without, and of quinn as it is with the proved controller alone; the tests of the
-    controller's crate too."""
-    status, said = cargo(AS_IT_IS, "test", "-p", "quinn-congestion", "--release")
-    tests.holds("cargo test of quinn-congestion", status == 0 and "4 passed" in said, said[-4000:])
-    how = {"cwd": ROOT / "rust" / "quinn-congestion", "stdin": subprocess.DEVNULL, "text": True}
-    tests.holds("cargo fmt of quinn-congestion", tree.ran(["cargo", "fmt", "--check"], **how)[0] == 0)
-    for which, *words, what in TRANSFERS:
-        status, said = cargo(which, "run", "-p", "transfer", "--release", "--quiet", "--", str(MEGABYTES), *words)
-        told = said.splitlines()[-1] if said else ""
-        tests.holds(f"a transfer by quinn {what}", status == 0 and "all came as sent" in told, said[-4000:])
-        tell(f"quinn {what}: {told}")
+    return status, said, compared(file)
 
 
 def instructions(which, load):
     """Instructions and packets of transfers that are `load` times as long: of both endpoints and all that they do."""
     status, said = cargo(which, "test", "-p", "quinn-proto", "--release", "--lib", "--no-run")
     program = re.search(r"Executable unittests .*\((.*)\)", said)
-    tests.holds("the tests are compiled", status == 0 and program, said[-4000:])
     out = f"--callgrind-out-file={ROOM}/{which}.{load}.callgrind"
     words = ["valgrind", "--tool=callgrind", out, ROOM / which / program[1], f"{LINK}load_plain", "--nocapture"]
     how = {"env": {**os.environ, "QUINN_LOAD": str(load)}, "stdin": subprocess.DEVNULL, "text": True}
     status, said, errors = tree.ran([*words, "--test-threads=1"], **how)
-    tests.holds("valgrind", status == 0, errors[-4000:])
     packets = sum(int(it) for it in re.findall(r"(\d+) packets", said))
     return int(re.search(r"Collected : (\d+)", errors)[1]), packets
 
 
-def run_instructions():
-    """The instructions of a data packet with its ACK, at both endpoints of a plain link. Transfers of two lengths are
-    subtracted, so that the handshake does not count."""
-    took = []
-    for which, what in (AS_IT_IS, "as it is"), (PROVED, "over the library"):
-        (short, few), (long, many) = instructions(which, 1), instructions(which, 4)
-        took.append((long - short) / (many - few))
-        tell(f"quinn {what}: {took[-1]:,.0f} instructions for a packet with its ACK, of both ends")
-    tell(f"quinn over the library: {took[1] / took[0]:.3f} of them")
+# ---- the parts
 
 
-PARTS = {"tests": run_tests, "shadow": run_shadow, "transfer": run_transfer, "instructions": run_instructions}
-USUAL = ["tests", "shadow", "transfer"]
+@functools.lru_cache(maxsize=None)
+def theirs():
+    """The lines of their sources."""
+    return {line for crate in CRATES for file in (registry() / crate).rglob("*.rs") for line in plain_lines(file)}
+
+
+class Edits(tree.TestCase):
+    @tree.each((it.name, it) for it in sorted((HERE / "edits").glob("*.ed")))
+    def test_no_line_of_theirs(self, _, file):
+        self.assertEqual(lines_of_theirs(file, theirs()), [])
+
+
+class Suites(tree.TestCase):
+    """Their own tests and ours over the link, with the library and without."""
+
+    @tree.each(BOTH, "{1}")
+    def test_status(self, which, _):
+        status, said = tested(which)
+        self.assertEqual(status, 0, said[-4000:])
+
+    @tree.each(BOTH, "{1}")
+    def test_own(self, which, what):
+        said = tested(which)[1]
+        own = passed(said, f"(?!{LINK})")
+        theirs = " and ".join(f"{count} of {crate}" for crate, count in sorted(own.items()))
+        tell(f"quinn {what}: of its own tests {theirs} pass")
+        self.assertEqual(dict(own), OWN_TESTS, re.findall(r"^test (\S+) \.\.\. FAILED$", said, re.M))
+
+    @tree.each(BOTH, "{1}")
+    def test_over_a_simulated_link(self, which, what):
+        ours = passed(tested(which)[1], LINK)["quinn_proto"]
+        tell(f"quinn {what}: {ours} of our tests over a simulated link pass")
+        self.assertEqual(ours, LINK_TESTS)
+
+
+class Shadow(tree.TestCase):
+    """Their tests and a transfer in shadow: with their own parts in addition to the library."""
+
+    FEATURES = "--release", "--features", "quinn-proto/shadow"
+    RUNS = [
+        ("the tests", "test", "-p", "quinn-proto", "--lib", *FEATURES),
+        ("a transfer", "run", "-p", "transfer", *FEATURES, "--", str(MEGABYTES), "reno"),
+    ]
+
+    @tree.each(RUNS)
+    def test_status(self, _, *words):
+        status, said, _ = shadowed(*words)
+        self.assertEqual(status, 0, said[-4000:])
+
+    @tree.each(RUNS)
+    def test_nothing_differs(self, _, *words):
+        for name, (often, differed, first) in sorted(shadowed(*words)[2].items()):
+            with self.subTest(name):
+                self.assertEqual(differed, 0, f"of {often} differ, at first {first}")
+
+    @tree.each(RUNS)
+    def test_values_are_compared(self, what, *words):
+        often, differed = (sum(it[at] for it in shadowed(*words)[2].values()) for at in (0, 1))
+        tell(f"quinn in shadow, {what}: {often:,} values of both compared, {differed:,} differ")
+        self.assertGreater(often, 1_000_000)
+
+
+class Transfer(tree.TestCase):
+    """A transfer with the library and without, and of quinn as it is with the proved controller alone; the tests of the
+    controller's crate too."""
+
+    def test_suite_of_quinn_congestion(self):
+        status, said = cargo(AS_IT_IS, "test", "-p", "quinn-congestion", "--release")
+        self.assertEqual(status, 0, said[-4000:])
+        self.assertGreater(passed(said, "")["quinn_congestion"], 0, said[-4000:])
+
+    def test_layout_of_quinn_congestion(self):
+        how = {"cwd": ROOT / "rust" / "quinn-congestion", "stdin": subprocess.DEVNULL, "text": True}
+        self.assertEqual(tree.ran(["cargo", "fmt", "--check"], **how), (0, "", ""))
+
+    @tree.each(TRANSFERS)
+    def test_transfer(self, what, which, *words):
+        status, said = cargo(which, "run", "-p", "transfer", "--release", "--quiet", "--", str(MEGABYTES), *words)
+        tell(f"quinn {what}: {said.splitlines()[-1] if said else ''}")
+        self.assertEqual(status, 0, said[-4000:])
+        self.assertIn("all came as sent", said.splitlines()[-1])
+
+
+class Instructions(tree.TestCase):
+    def test_of_a_packet(self):
+        """The instructions of a data packet with its ACK, at both endpoints of a plain link. Transfers of two lengths are
+        subtracted, so that the handshake does not count."""
+        took = []
+        for which, what in BOTH:
+            (short, few), (long, many) = instructions(which, 1), instructions(which, 4)
+            took.append((long - short) / (many - few))
+            tell(f"quinn {what}: {took[-1]:,.0f} instructions for a packet with its ACK, of both ends")
+        tell(f"quinn over the library: {took[1] / took[0]:.3f} of them")
+
+
+PARTS = {"edits": "Edits", "tests": "Suites", "shadow": "Shadow", "transfer": "Transfer", "instructions": "Instructions"}
+USUAL = ["edits", "tests", "shadow", "transfer"]
 
 
 def main():
-    parser = argparse.ArgumentParser(description=__doc__, formatter_class=argparse.RawDescriptionHelpFormatter)
-    parser.add_argument("parts", nargs="*", choices=[[], *PARTS], metavar="PART", help=argparse.SUPPRESS)
-    parser.add_argument("--write", action="store_true", help=argparse.SUPPRESS)
-    given = tree.arguments(parser)
+    given, words = parsed(__doc__, PARTS, USUAL, write={"action": "store_true"})
     sources = registry()
     if not sources:
-        print(f"quinn: the sources of {' and '.join(CRATES)} are missing: apt-get install {' '.join(PACKAGES)}")
-        return
+        sys.exit(f"quinn: the sources of {' and '.join(CRATES)} are missing: apt-get install {' '.join(PACKAGES)}")
     if given.write:
         return written(sources)
     rt = shutil.which("rt")
     if not LIBRARY.is_file() or not rt:
         sys.exit("quinn: the library is missing: tests/rust.py --library" if rt else "quinn: rt is not on the PATH")
-    theirs = [file for crate in CRATES for file in (sources / crate).rglob("*.rs")]
-    without_theirs(tests, (HERE / "edits").glob("*.ed"), theirs)
     (ROOM / "lib").mkdir(parents=True, exist_ok=True)
     kits = (it / "c" / "liblibc_c.a" for it in pathlib.Path(rt).resolve().parents)
     for file in LIBRARY, next(it for it in kits if it.is_file()):
         shutil.copy(file, ROOM / "lib")
-    for which in AS_IT_IS, PROVED:
+    for which, _ in BOTH:
         lay_out(which, sources)
-    for part in given.parts or USUAL:
-        PARTS[part]()
-    tests.end()
+    tree.main("quinn", words)
 
 
 if __name__ == "__main__":

@@ -1,6 +1,8 @@
 """What the scripts that put another stack over the library have in common: its sources, as Debian packages them, and
 our edits of these. An edit names lines by their numbers, in the form of `diff -e`, and holds ours: no line of theirs."""
+import argparse
 import difflib
+import itertools
 import re
 import shutil
 import subprocess
@@ -47,10 +49,25 @@ def write(path, text):
         path.write_text(text)
 
 
-def without_theirs(tests, ours, theirs):
-    """No line of our files is in theirs, except short ones that every program in the language has."""
-    plain = lambda line: " ".join(line.split())
-    known = {plain(line) for file in theirs for line in file.read_text().splitlines()}
-    for file in sorted(ours):
-        same = [it for it in map(plain, file.read_text().splitlines()) if len(it) > LONGEST and it in known]
-        tests.holds(f"{file.name} has no line of theirs", not same, "\n".join(same))
+def plain_lines(file):
+    """The lines of a file, with one space in place of several."""
+    return [" ".join(line.split()) for line in file.read_text().splitlines()]
+
+
+def lines_of_theirs(file, theirs):
+    """The lines of our file that are among theirs, except short ones that every program in the language has."""
+    return [it for it in plain_lines(file) if len(it) > LONGEST and it in theirs]
+
+
+def parsed(page, parts, usual, **options):
+    """The values of a script's options, and the arguments that are left for unittest. In these, the parts that come first are classes of tests."""
+    parser = argparse.ArgumentParser(description=page, formatter_class=argparse.RawDescriptionHelpFormatter, usage="%(prog)s [PART..] [OPTION..]",
+                                     epilog="All other options are those of Python's unittest, as -k NAME, -v and -f.")
+    for name, how in options.items():
+        parser.add_argument(f"--{name}", help=argparse.SUPPRESS, **how)
+    given, words = parser.parse_known_args()
+    named = list(itertools.takewhile(lambda it: not it.startswith("-"), words))
+    for it in named:
+        if it not in parts:
+            parser.error(f"{it} is none of {', '.join(parts)}")
+    return given, [*words[len(named):], *(parts[it] for it in named or usual)]
