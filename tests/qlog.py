@@ -225,6 +225,12 @@ class Bounds(tree.TestCase):
         status, script, _ = read(qlog_mutants.at_one_time(20_000))
         self.assertEqual((status, script.count("timeout 1000000\n")), (0, 20_000))
 
+    def test_nesting_about_as_deep_as_python_reads(self):
+        for depth in range(955, 1000, 4):
+            status, script, errors = read(qlog_mutants.received("[" * depth + "]" * depth))
+            self.assertEqual((status, script), (2, ""))
+            self.assertRegex(errors, r"^qlog2script: (the recording is nested too deeply|event 1: data.header.packet_number is a list, and not .*)\n$")
+
     def test_many_ranges(self):
         status, script, left = read(qlog_mutants.in_holes(3_000))
         line = next(it for it in script.splitlines() if it.startswith("ack "))

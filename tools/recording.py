@@ -2,8 +2,8 @@
 draft-ietf-quic-qlog-quic-events, of version 0.3, or of older drafts.
 
 A recording comes from others, so each value is checked once, where it is read: its type, its range, and how many there are. A tool declares the
-names that it reads of each event as a form (`fields`, `several`, `COUNT`, ..), and gets Python's values. Everything else in a recording is
-ignored. Numbers are kept as texts until then: 1e400000000 is short, but its digits are not."""
+names that it reads of each event as a form (`fields`, `several`, `COUNT`, ..), and gets Python's values. Numbers stay texts until their form reads
+them, since 1e400000000 is short, and its digits are not. Everything else in a recording is ignored."""
 import bisect
 import decimal
 import json
@@ -48,8 +48,16 @@ class Misfit(Exception):
 
 def misfit(value, wanted):
     """The error for a value that is not what is wanted."""
-    kind = {list: "a list", dict: "an object", Repeated: "an object", type(None): "null", bool: str(value).lower()}.get(type(value))
-    return Misfit(f"is {kind or value if kind or isinstance(value, Literal) and len(value) < 20 else shown(value)}, and not {wanted}")
+    return Misfit(f"is {described(value)}, and not {wanted}")
+
+
+def described(value):
+    """A value in an error: a long one, or one with other values in it, is not written out."""
+    if isinstance(value, (list, dict)):
+        return "a list" if isinstance(value, list) else "an object"
+    if isinstance(value, str):
+        return value if isinstance(value, Literal) and len(value) < 20 else shown(value)
+    return json.dumps(value)
 
 
 def exact(value, wanted):
