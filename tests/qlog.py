@@ -225,6 +225,10 @@ class Bounds(tree.TestCase):
         status, script, _ = read(qlog_mutants.at_one_time(20_000))
         self.assertEqual((status, script.count("timeout 1000000\n")), (0, 20_000))
 
+    def test_many_timers_of_the_pacer(self):
+        status, script, _ = read(qlog_mutants.paced(40_000))
+        self.assertEqual((status, script), (0, "transmit data 1000000 1200 1\n" * 40_000))
+
     def test_nesting_about_as_deep_as_python_reads(self):
         for depth in range(955, 1000, 4):
             status, script, errors = read(qlog_mutants.received("[" * depth + "]" * depth))

@@ -102,6 +102,11 @@ def at_one_time(count):
     return trace([*(sent(number=it) for it in range(count)), *[event("recovery:timer_updated", '{"event_type":"expired"}')] * count])
 
 
+def paced(count):
+    """Timers of the pacer after which no packet is sent."""
+    return trace([event("recovery:timer_updated", '{"timer_type":"pacing","event_type":"set"}')] * count)
+
+
 def in_holes(count):
     """Packets, and an ACK of every second one."""
     ranges = ",".join(f"[{it}]" for it in range(0, count, 2))
