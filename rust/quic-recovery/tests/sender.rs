@@ -527,6 +527,39 @@ fn a_packet_threshold() {
     }
 }
 
+/// A probe has all items that wait, which may be more than a packet holds. Those that it does not carry go into the
+/// second probe and into the next packet, and each is acknowledged once (RFC 9002, 6.2.4).
+#[test]
+fn the_rest_of_a_probe() {
+    let (space, mut told) = (SpaceId::Data, Acknowledged::default());
+    let mut sender = Sender::established(Side::Client, &RecoveryConfig::default(), at(1)).unwrap();
+    let mut send = |sender: &mut Sender, now: Instant, items: &[u64]| {
+        let goes = sender.transmit(now, 1000, space, true).unwrap();
+        assert_eq!(goes, Transmission::Transmitted);
+        sender.send(space, now, 1000, true, None, items).unwrap();
+    };
+    for item in 0..6 {
+        send(&mut sender, at(1), &[2 * item, 2 * item + 1]);
+    }
+    ack(&mut sender, 101, &[(5, 5)], &mut told);
+    let lost = sender.on_timeout(sender.timer().unwrap()).unwrap();
+    assert!(matches!(lost, Timeout::Lost { .. }), "{lost:?}");
+    send(&mut sender, at(120), &[12]);
+    let now = sender.timer().unwrap();
+    let due = sender.on_timeout(now).unwrap();
+    assert_eq!(due, Timeout::Probe { space, count: 2 });
+    let items = sender.probe(space, false).unwrap();
+    assert_eq!(items, [0, 1, 2, 3, 4, 5, 6, 7, 8, 9]);
+    for carried in items.chunks(4) {
+        send(&mut sender, now, carried);
+    }
+    ack(&mut sender, 600, &[(6, 9)], &mut told);
+    let acked: Vec<_> = told.packets().flat_map(|it| it.1.to_vec()).collect();
+    assert_eq!(acked, [12, 0, 1, 2, 3, 4, 5, 6, 7, 8, 9]);
+    let waiting = sender.on_event(Event::TakePending { space });
+    assert_eq!(waiting, Ok(Answer::Queue(vec![])));
+}
+
 /// A sender may move to another thread.
 #[test]
 fn moves() {
