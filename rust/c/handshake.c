@@ -4,7 +4,7 @@
 #include <inttypes.h>
 #include <stdio.h>
 
-static const uint64_t ms = 1000000;
+static const uint64_t ms = 1000000, peer_max_ack_delay = 20 * 1000000;
 
 // Records a received datagram with one ack-eliciting packet. Its frames are processed only if the packet is new.
 static bool receive(struct recovery_handle *server, unsigned space, uint64_t now, uint64_t number, uint64_t bytes) {
@@ -68,7 +68,7 @@ static void handshake(struct recovery_handle *server) {
     send(server, RECOVERY_SPACE_HANDSHAKE, 30 * ms, 1200, 3);
     acked(server, RECOVERY_SPACE_HANDSHAKE, 60 * ms, 0, 1);
     // The client's transport parameters, and the end of the handshake.
-    recovery_ffi_sender_peer_delay(server, 0, 20 * ms);
+    recovery_ffi_sender_peer_delay(server, 0, peer_max_ack_delay);
     recovery_ffi_peer_limit(server, 1400);
     recovery_ffi_sender_handshake_confirmed(server);
     recovery_ffi_sender_discard(server, RECOVERY_SPACE_HANDSHAKE, 60 * ms);
@@ -116,10 +116,13 @@ static void transfer(struct recovery_handle *server, uint64_t now) {
 // The client moves to another address: the new path is challenged, and then the old one is dropped (RFC 9000, 9).
 static void migrate(struct recovery_handle *server, uint64_t now) {
     struct recovery_address moved = {.octets = {198, 51, 100, 7}, .port = 4433};
+    uint64_t before = recovery_ffi_rtt(server).pto_base;
     recovery_ffi_new_path(server, now, &moved, true);
     recovery_ffi_datagram_in(server, false, 1200);
     recovery_ffi_sender_challenge(server, 0x0123456789abcdef, true, true);
-    recovery_ffi_set_timer(server, RECOVERY_TIMER_PATH_VALIDATION, now + 3 * recovery_ffi_rtt(server).pto_base);
+    // Three PTOs, the larger of both paths' (RFC 9000, 8.2.4).
+    uint64_t after = recovery_ffi_rtt(server).pto_base, base = after > before ? after : before;
+    recovery_ffi_set_timer(server, RECOVERY_TIMER_PATH_VALIDATION, now + 3 * (base + peer_max_ack_delay));
     send(server, RECOVERY_SPACE_DATA, now, 1200, 20);
     // The PATH_RESPONSE frame: the address is validated.
     recovery_ffi_sender_challenge(server, 0, false, false);

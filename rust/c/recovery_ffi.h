@@ -1136,7 +1136,7 @@ struct recovery_encoded_reply recovery_ffi_sender_handshake_confirmed(struct rec
 //
 // In rust/c/handshake.c:
 //
-//     recovery_ffi_sender_peer_delay(server, 0, 20 * ms);
+//     recovery_ffi_sender_peer_delay(server, 0, peer_max_ack_delay);
 struct recovery_encoded_reply recovery_ffi_sender_peer_delay(struct recovery_handle *handle, uint64_t secs, uint32_t nanos);
 
 // Sets the RTT that timers use before the first RTT sample of the path in use, instead of the one in the settings

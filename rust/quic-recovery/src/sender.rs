@@ -435,7 +435,7 @@ impl Sender {
     /// // an unvalidated client gets at most three times the bytes received from it (RFC 9000, 8.1)
     /// let datagram = server.transmit(at(0), 1200, SpaceId::Initial, true)?;
     /// assert_eq!(datagram, Transmission::Blocked);
-    /// // a client has no such limit
+    /// // the first path of a client has no such limit; a later one has, until its address is validated
     /// let mut client = Sender::new(Side::Client, &config, at(0))?;
     /// let datagram = client.transmit(at(0), 1200, SpaceId::Initial, true)?;
     /// assert_eq!(datagram, Transmission::Transmitted);
@@ -701,8 +701,8 @@ impl Sender {
         })
     }
 
-    /// Records a sent packet with these items, as [`Event::Send`] and with its errors. A packet without a size does not
-    /// start the probe timeout (RFC 9002, A.5).
+    /// Records a sent packet with these items, as [`Event::Send`] and with its errors. An ack-eliciting packet starts the
+    /// probe timeout, even with size 0, with which it does not count in flight (RFC 9002, A.5). No other packet does.
     ///
     /// ```
     /// # use quic_recovery::*;
