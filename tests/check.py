@@ -199,16 +199,19 @@ def gate():
     """What rt ci passed and failed in a copy of the tree without must-fail/. With must-fail/, it would prove each crate with edits there
     once more. That takes some five times as long as trying these edits with the other wrong bodies."""
     shutil.rmtree(ROOT / "out" / "prove", ignore_errors=True)  # a killed ./prove leaves what the next one would take for its own
-    for it in "recovery_ffi/out/librecovery_ffi.a", "recovery_ffi/out/verdict", *(f"{crate}/out/{crate}" for crate in tree.LAUNCHERS):
+    for it in ["recovery_ffi/out/librecovery_ffi.a", "recovery_ffi/out/verdict", *(f"{crate}/out/{crate}" for crate in tree.LAUNCHERS)]:
         with contextlib.suppress(FileNotFoundError):
             (ROOT / "crates" / it).unlink()  # the prebuilt bits are compared with what this run builds, and with nothing older
-    with tempfile.TemporaryDirectory(ignore_cleanup_errors=True) as folder:
+    folder = tempfile.mkdtemp()
+    try:
         root = pathlib.Path(folder, "tree")
         shutil.copytree(ROOT, root, symlinks=True, ignore=left_out)
         (root / ".git").mkdir()  # it is the top of a repository
         passed, failed = prove(root)
         if not failed:
             take(root)
+    finally:
+        shutil.rmtree(folder, ignore_errors=True)  # what rt ci started may still write there
     return passed, failed, 0
 
 

@@ -132,22 +132,14 @@ def replace():
 # ---- what is compared
 
 
-def holds(tests, is_so, why):
-    """Counts what was compared, and says why it does not pass."""
-    tests.passed += is_so
-    tests.failed += not is_so
-    if not is_so:
-        print(f"dist: {why}", file=sys.stderr, flush=True)
-
-
 def found():
     """Whether there is anything to compare."""
     if not (AT / "SHA256SUMS").is_file() or not (AT / "PROVED").is_file():
         raise tree.Unfit(f"there is no {SHOWN} with PROVED and SHA256SUMS: ./dist writes it, and needs the toolchain")
 
 
-def compare(tests):
-    """Each prebuilt file is what ./dist would write."""
+def compare():
+    """Whether each prebuilt file is what ./dist would write, with the reason if it is not."""
     found()
     was = re.search(r"^kit (.*)$", (AT / "PROVED").read_text(), re.M)
     with tempfile.TemporaryDirectory() as room:
@@ -155,19 +147,29 @@ def compare(tests):
         write(anew, was and was[1])
         for it in sorted({*files(anew), *files(AT)}):
             is_same = all((at / it).is_file() for at in (anew, AT)) and (anew / it).read_bytes() == (AT / it).read_bytes()
-            holds(tests, is_same, f"{SHOWN}/{it} is not, bit for bit, what the sources build to: run ./dist, and commit what it writes")
+            yield is_same, f"{SHOWN}/{it} is not, bit for bit, what the sources build to: run ./dist, and commit what it writes"
 
 
-def sums(tests):
-    """The prebuilt files are the listed ones, and the sources those that they were built from."""
+def sums():
+    """Whether the prebuilt files are the listed ones, and the sources those that they were built from, each with the reason if not."""
     found()
     listed = dict(line.split("  ", 1)[::-1] for line in (AT / "SHA256SUMS").read_text().splitlines())
     for it in sorted({*listed, *files(AT)} - {"SHA256SUMS"}):
         is_listed = (AT / it).is_file() and listed.get(it) == checksum(AT / it)
-        holds(tests, is_listed, f"{SHOWN}/{it} is not the file that SHA256SUMS lists")
+        yield is_listed, f"{SHOWN}/{it} is not the file that SHA256SUMS lists"
     named = dict(re.findall(r"^sources (\w+) (\w+)$", (AT / "PROVED").read_text(), re.M))
     for crate, file in BUILT.items():
-        holds(tests, named.get(crate) == tree.sum_of_sources(crate), f"{SHOWN}/{file} was built from other sources of {crate} than those here")
+        yield named.get(crate) == tree.sum_of_sources(crate), f"{SHOWN}/{file} was built from other sources of {crate} than those here"
+
+
+def report(compared):
+    """Ends with what was compared and with the reason of each failure."""
+    compared = list(compared)
+    faults = [why for is_so, why in compared if not is_so]
+    for it in faults:
+        print(f"dist: {it}", file=sys.stderr, flush=True)
+    print(f"dist: {len(compared) - len(faults)} passed, {len(faults)} failed")
+    sys.exit(len(faults) > 0)
 
 
 def main():
@@ -177,20 +179,17 @@ def main():
         parser.add_argument(f"--{it}", dest="choice", action="store_const", const=it, help=argparse.SUPPRESS)
     choice = tree.arguments(parser).choice
     tree.stop_on_signals()
-    tests = tree.Tests("dist")
     tell = lambda text: print(f"dist: {text}", file=sys.stderr, flush=True)
     try:
         tree.reject_committed_builds()
         if choice == "sums":
-            sums(tests)
-            tests.end()
+            report(sums())
         warning = tree.other_logic()
         if warning:
             tell(warning)
         with tree.alone("./dist", tell):
             if choice == "compare":
-                compare(tests)
-                tests.end()
+                report(compare())
             replace()
         size = sum((AT / it).stat().st_size for it in files(AT))
         print(f"dist: wrote {SHOWN}: {len(files(AT))} files, {size:,} bytes")

@@ -11,6 +11,7 @@ with a library of another layout, and with hostile ACK frames, whose cost has a 
     tests/rust.py -k PART    the tests whose names have this part
 """
 import hashlib
+import itertools
 import os
 import pathlib
 import re
@@ -605,7 +606,7 @@ def timers_in_rust():
     yield "#[derive(Clone, Copy, Debug, PartialEq, Eq, PartialOrd, Ord, Hash)]"
     yield "#[repr(u8)]"
     yield "pub enum Timer {"
-    found = list(zip(variants(TIMERS, "Timer").items(), tree.timers(), strict=True))
+    found = [*itertools.zip_longest(variants(TIMERS, "Timer").items(), tree.timers())]  # a difference in length fails below
     for (name, docs), _ in found:
         yield from (f"    /// {it}" for it in docs)
         yield f"    {name} = ffi::TIMER_{snake(name)},"
@@ -926,7 +927,7 @@ class ProgramsInC(WithLibrary):
     def test_program(self, source):
         program = self.made / "program"
         self.passes(in_c(self.folder, source, program))
-        wanted = (ROOT / "rust" / "c" / f"{source.removesuffix('.c').replace('.', '_')}.out").read_text()
+        wanted = (ROOT / "rust" / "c" / f"{re.sub('[.]c$', '', source).replace('.', '_')}.out").read_text()
         self.assertEqual(self.passes([program]), wanted)
         if shutil.which("valgrind"):
             # no leak, and no access that is not its own

@@ -18,7 +18,6 @@ import unittest
 ROOT = pathlib.Path(__file__).resolve().parent.parent
 LOCK = ROOT / "out" / "lock"
 WORKS_IN = "QUIC_RECOVERY_WORKS_IN"  # the tree that the script which started this one has for itself
-SHOWN = 1000  # characters of the values that a test found and expected
 SHOWN_LINES = 60  # of the difference between two programs' answers
 __unittest = True  # tracebacks of failures leave out this file
 BASELINE = ["--cpu", "x86-64"]  # for the static library: unlike a program, it does not check its processor
@@ -275,43 +274,6 @@ def refusals():
     error has."""
     body = re.search(r"^pub enum Refusal \{\n(.*?)^\}", (ROOT / "crates" / "recovery_events" / "src" / "event.rt").read_text(), re.M | re.S)[1]
     return [(name, said) for said, name in re.findall(r'#\[error\("([^"]+)"\)\]\n    (\w+)', body)]
-
-
-class Tests:
-    """What the tests of a script passed and failed."""
-
-    def __init__(self, name):
-        self.name, self.passed, self.failed = name, 0, 0
-
-    def expect(self, what, found, wanted):
-        if found == wanted:
-            self.passed += 1
-        else:
-            self.failed += 1
-            shown = ", and not ".join(text if len(text) < SHOWN else f"{text[:SHOWN]} .." for text in map(repr, (found, wanted)))
-            print(f"{self.name}: {what}: {shown}", file=sys.stderr, flush=True)
-
-    def answers(self, what, script, found, wanted):
-        """A program's result with a script: status, answers and errors. If answers differ, the first is shown, with its line."""
-        lines = [it for it in script.splitlines() if it and it[:1] not in ("#", b"#")]
-        came, want = found[1].splitlines(), wanted[1].splitlines()
-        parted = next((at for at, both in enumerate(itertools.zip_longest(came, want)) if both[0] != both[1]), None)
-        if found == wanted or parted is None:
-            return self.expect(what, found, wanted)
-        told = [it[parted] if parted < len(it) else None for it in (lines, came, want)]
-        self.expect(f"{what}: the line {told[0]!r}", *told[1:])
-
-    def holds(self, what, holds, said=""):
-        """Whether it holds. If it does not, the reason is shown."""
-        self.passed += bool(holds)
-        if not holds:
-            self.failed += 1
-            print(f"{self.name}: {what} failed\n{said}".rstrip(), file=sys.stderr, flush=True)
-        return holds
-
-    def end(self):
-        print(f"{self.name}: {self.passed} passed, {self.failed} failed")
-        sys.exit(self.failed > 0)
 
 
 class TestCase(unittest.TestCase):
