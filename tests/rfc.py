@@ -34,8 +34,10 @@ RFC 9000 and 8899 are those about ACKs, paths, IDs, packet numbers, ECN and size
 - **yes**: it is met. The last column has clauses, each with its file in `crates/*/specs`, and rows: how a comment of
   `tests/sender/rows.txt`, or of a file in `tests/rows`, begins.
 - **you**: the stack that calls the library does it, as the page describes it.
-- **no**: the library departs from it. The last column has the reason. *Fault* marks what is to be repaired.
+- **no**: the library departs from it. The last column has the reason.
 - **not used**: the RFC permits it, and the library does not do it.
+
+*Fault* marks what is to be repaired.
 
 *Kind* is the RFC's keyword. A *rule* is stated without one, *code* is pseudocode of an appendix, *can* names a
 possibility, and *open* is what the RFC does not decide. `tests/rfc.py --write` writes this page from `docs/rfc.tsv`,
