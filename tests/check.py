@@ -168,28 +168,31 @@ class Gate:
 
     def __init__(self, lanes):
         self.seconds = {it: proofs.seconds_of(it) for it in tree.crates()}
-        self.lanes, self.lines, self.kept, self.done, self.ended = lanes, [], set(), set(), threading.Event()
+        self.lanes, self.lines, self.kept, self.done, self.took, self.ended = lanes, [], set(), set(), 0, threading.Event()
 
-    def add(self, line):
+    def add(self, line, now):
+        """Takes a line that came so many seconds after the beginning."""
         self.lines.append(line)
         found = self.ENDED.match(line)
-        if found:
-            (self.kept if "kept" in found[2] else self.done).add(found[1])
+        if found and "kept" in found[2]:
+            self.kept.add(found[1])
+        elif found:
+            self.done.add(found[1])
+            self.took = now  # by these crates
 
     def passed(self):
         return sum(bool(self.PASSED.match(it)) for it in self.lines)
 
-    def minutes_left(self, spent):
-        """By the clock, until all parts have ended: what was proved so far, in so many seconds, gives the ratio of this machine to the usual
-        times of proofs."""
+    def minutes_left(self, now):
+        """By the clock, until all parts have ended: what was proved so far gives the ratio of this machine to the usual times of proofs."""
         expected = lambda names: sum(self.seconds[it] for it in names) / self.lanes
-        ratio = (proofs.FIRST_SECONDS + spent) / (proofs.FIRST_SECONDS + expected(self.done))
+        ratio = (proofs.FIRST_SECONDS + self.took) / (proofs.FIRST_SECONDS + expected(self.done))
         scripts = 60 * sum(it.minutes for it in SCRIPTS) / self.lanes
-        return ratio * (expected(self.seconds.keys() - self.done - self.kept) + scripts) / 60
+        rest = ratio * (expected(self.seconds.keys() - self.done - self.kept) + scripts)
+        return max(rest - (now - self.took), rest / 10) / 60
 
-    def tell(self):
+    def tell(self, began):
         """Says so each minute."""
-        began = time.time()
         while not self.ended.wait(60):
             count = len(self.done) + len(self.kept)
             show(f"rt ci: {count} of {len(self.seconds)} crates, about {max(1, round(self.minutes_left(time.time() - began)))} minutes more in all")
@@ -242,12 +245,13 @@ def prove(root):
     show("rt ci: proves all from nothing")
     os.environ.setdefault("RT_JOBS", str(tree.lanes(MEMORY_EACH)))  # each check on one processor: on several it takes a fifth to two fifths more
     progress = Gate(int(os.environ["RT_JOBS"]))
-    teller = threading.Thread(target=progress.tell)
+    began = time.time()
+    teller = threading.Thread(target=progress.tell, args=[began])
     teller.start()
     try:
         with open(LOG, "w") as log, running(["rt", "ci"], subprocess.STDOUT, root) as call:
             for line in call.stdout:
-                progress.add(line.replace(str(root), str(ROOT)))
+                progress.add(line.replace(str(root), str(ROOT)), time.time() - began)
                 print(progress.lines[-1], end="", file=log, flush=True)
     except KeyboardInterrupt:
         raise BrokenOff("rt ci", progress.passed())

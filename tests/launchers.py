@@ -261,7 +261,7 @@ class MinutesLeft(tree.TestCase):
 
     def half(self):
         for line in "rt: low proved\n", "rt: low: its tests are proved\n", "rt: beside is kept: it was proved here\n":
-            self.gate.add(line)
+            self.gate.add(line, 100)
 
     def test_at_first(self):
         self.assertEqual(self.gate.minutes_left(0), (800 / 2 + self.scripts) / 60)
@@ -269,7 +269,9 @@ class MinutesLeft(tree.TestCase):
     def test_with_half_of_it(self):
         self.half()
         ratio = (60 + 100) / (60 + 50)
-        self.assertEqual(self.gate.minutes_left(100), ratio * (500 / 2 + self.scripts) / 60)
+        rest = ratio * (500 / 2 + self.scripts)
+        for later, left in (0, rest), (30, rest - 30), (1e9, rest / 10):
+            self.assertEqual(self.gate.minutes_left(100 + later), left / 60)
 
     def test_passed(self):
         self.half()
