@@ -61,7 +61,9 @@ TIMERS = {
     "docs/PROGRAMS.md": r"`{name}`",
     "tests/careful/lines.rs": r'b"{name}" => Some\({place}\)',
 }
-REFUSED = ["README.md", "docs/*.md", "tests/careful/*.rs", "tests/*.py"]  # the files that name errors with their numbers
+# the files that name errors with their numbers
+REFUSED = ["README.md", "docs/*.md", "tests/careful/*.rs", "tests/*.py", "tests/sender/*.txt", "rust/quic-recovery/tests/*.rs", "crates/*/src/**/*.rt",
+           "crates/*/specs/**/*.antt"]
 LINES = {"AckFrequencyIn": "ack-frequency", "DiscardSpace": "discard"}  # whose lines are not their names
 
 
@@ -91,7 +93,8 @@ def names_missing():
         for place, form in lists.items():
             text = (ROOT / place).read_text()
             yield from (f"{it['name']} is not in {place}: add it to the list there" for it in found if not re.search(form.format(**it), text))
-    right = {(str(it["number"]), it["name"]) for it in refusals} | {("21", "Unsent")}  # the last is the sender's own
+    own = re.findall(r"^pub const REFUSAL_(UNSENT): u8 = (\d+);", (ROOT / "crates" / "recovery_engine" / "src" / "numbers.rt").read_text(), re.M)
+    right = {(str(it["number"]), it["name"]) for it in refusals} | {(number, name.capitalize()) for name, number in own}  # the last is the sender's own
     for path in sorted(it for place in REFUSED for it in ROOT.glob(place)):
         wrong = set(re.findall(r"\brefused (\d+) ([A-Z]\w+)", path.read_text())) - right
         yield from (f"{path.relative_to(ROOT)} has a refusal {number} {name}, which is none" for number, name in sorted(wrong))

@@ -6,7 +6,7 @@ use crate::layer::{
 use crate::lines::{Answer, Event, Reply, apply};
 use crate::skips::Skips;
 
-pub const UNSENT: Refusal = "refused 21 Unsent\n";
+pub const UNSENT: Refusal = "refused 128 Unsent\n";
 pub const SKIPPED_ACKED: Refusal = "refused 16 SkippedAcked\n";
 
 const SPACES: [Space; 3] = [Space::Initial, Space::Handshake, Space::Data];

@@ -1,6 +1,10 @@
 //! A recovery for C and Rust: an exported function for each event, and for each reading. Each guarantees what the live
 //! recovery's `apply` guarantees for its event, for every past, and returns an error if the arguments are invalid.
 //! docs/RUST.md states what a caller must ensure.
+//!
+//! A reader guarantees that the handle holds the same recovery after it (`ReadsHandle`). It takes the recovery out of
+//! the handle, borrows it as shared, and puts it back. So it writes to the handle's bytes, and to nothing that they
+//! lead to: several readers may run at once, each on a copy of these bytes (rust/c/readers.c).
 #![tactic(auto)]
 
 mod acks;

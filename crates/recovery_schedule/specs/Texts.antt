@@ -33,7 +33,7 @@ end_text Server = codes "server"
 -- an error with its number and name
 abbrev pub error_text : SenderError → List ℕ
 error_text (Event refusal) = codes "refused " ++ decimal (refusal_number refusal) ++ codes " " ++ refusal_name refusal
-error_text Unsent = codes "refused 21 Unsent"
+error_text Unsent = codes "refused 128 Unsent"
 
 -- the bytes that are reported lost (RFC 9002, 7.3.2 and 7.6)
 abbrev pub congestion_text : Bool → Option ℕ → List ℕ

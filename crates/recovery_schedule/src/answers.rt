@@ -23,7 +23,7 @@ fn push_error(text: &mut String, error: SenderError) -> Result<(), AllocError>
             text.push_str(" ")?;
             text.push_str(refusal.name())
         }
-        SenderError::Unsent => text.push_str("refused 21 Unsent"),
+        SenderError::Unsent => text.push_str("refused 128 Unsent"),
     }
 }
 

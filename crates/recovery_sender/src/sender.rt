@@ -13,6 +13,7 @@ use recovery_events::event::Refusal;
 use recovery_losses::Variables;
 use recovery_queue::queue::RetransmitQueue;
 use std::alloc::Global;
+use thiserror::Error;
 
 mod acks;
 mod ends;
@@ -34,11 +35,13 @@ pub use probes::Timeout;
 pub use readings::TimerState;
 
 /// Why a call fails.
-#[derive(Clone, Copy)]
+#[derive(Clone, Copy, Debug, PartialEq, Eq, Error)]
 pub enum SenderError {
     /// The error of the recovery's event.
+    #[error("{0}")]
     Event(Refusal),
     /// A packet number was acknowledged that was never sent (RFC 9000, 13.1).
+    #[error("a number was acknowledged that was never sent")]
     Unsent,
 }
 

@@ -108,7 +108,7 @@ reply_text replies.Done = codes "done"
 abbrev pub call_text : Result ItemReply SenderError → Option ℕ → List ℕ
 call_text (Ok reply) timer = reply_text reply ++ timer_text timer
 call_text (Err (Event refusal)) timer = refusal_text refusal
-call_text (Err Unsent) timer = codes "refused 21 Unsent"
+call_text (Err Unsent) timer = codes "refused 128 Unsent"
 
 -- a line for each call
 abbrev pub said_line : CallRecord (List ℕ) → List ℕ

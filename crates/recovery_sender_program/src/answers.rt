@@ -1,4 +1,5 @@
 //! Writes one line for each call.
+ghost use lib.Chars.{codes};
 ghost use Rattle.std.specs.Prelude.{◌≡◌, ◌++◌, OnOk, decimal};
 ghost use Rattle.recovery_replay.specs.Answering.{ExtendsText};
 ghost use Rattle.recovery_script_syntax.specs.Answers.{answer_text, items_text};
@@ -206,6 +207,13 @@ fn push_reply(
     }
 }
 
+/// Appends the error of a frame that acknowledges a packet that was never sent.
+fn push_unsent(text: &mut String) -> Result<(), AllocError>
+    ensures { OnOk result (ExtendsText text.old (codes "refused 128 Unsent") text.new) }
+{
+    text.push_str("refused 128 Unsent")
+}
+
 /// Appends the line of a call, with the loss detection timer unless it is an error.
 pub fn write_said(
     alloc: Global,
@@ -221,7 +229,7 @@ pub fn write_said(
             push_timer(text, timer)?;
         }
         Err(SenderError::Event(refusal)) => push_answer(alloc, text, &Err(refusal))?,
-        Err(SenderError::Unsent) => text.push_str("refused 21 Unsent")?,
+        Err(SenderError::Unsent) => push_unsent(text)?,
     }
     text.push_str("\n")
 }

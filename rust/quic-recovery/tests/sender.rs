@@ -165,7 +165,7 @@ fn answer(sender: &mut Sender, line: &str) -> String {
     match reply {
         Ok(text) => format!("{text} timer {timer}"),
         Err(SenderError::Event(refusal)) => written(&Err(refusal)),
-        Err(SenderError::Unsent) => "refused 21 Unsent".into(),
+        Err(SenderError::Unsent) => "refused 128 Unsent".into(),
         Err(other) => panic!("{line}: {other}"),
     }
 }
