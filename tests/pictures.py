@@ -33,7 +33,10 @@ REJECTED = [  # the arguments, the input, and the error
     (["tunnel", "60000"], MEASURED, USAGE),
     (["burst"], "newreno paced 400\n", USAGE),
     (["connection"], "validated current\nnothing\n", "line 2: cannot be read\n"),
+    (["connection"], b"validated current\n\xff\n", "line 2: cannot be read\n"),
+    (["connection", "over=cubic"], b"validated current\nover\n\xff\n", "recovery-pictures: the text is not UTF-8\n"),
     (["tunnel"], "1400 yes\n1400\n", "line 2: not 'SIZE yes' or 'SIZE no'\n"),
+    (["tunnel"], b"1400 yes\n\xff\n", "recovery-pictures: the text is not UTF-8\n"),
 ]
 
 # the place of the time in a line, and the start of the clock in the second script
@@ -44,7 +47,7 @@ LEFT, WIDTH, BOTTOM, HEIGHT = 130, 1740, 670, 560  # of the upper panel
 
 
 def ran(arguments, given):
-    status, output, errors = tree.ran([PROGRAM, *arguments], given.encode())
+    status, output, errors = tree.ran([PROGRAM, *arguments], given if isinstance(given, bytes) else given.encode())
     return status, output.decode(), errors.decode()
 
 
@@ -158,7 +161,7 @@ class TwoScripts(Drawn):
 
 
 class Errors(tree.TestCase):
-    @tree.each(REJECTED, "{0} {2!r:.20}")
+    @tree.each(REJECTED, "{0} {1!r:.20} {2!r:.20}")
     def test_rejected(self, arguments, given, error):
         self.assertEqual(ran(arguments, given), (2, "", error))
 

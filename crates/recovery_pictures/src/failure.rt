@@ -17,6 +17,8 @@ pub enum Failure {
     BadMeasurement(u64),
     #[error("no line 'over' between two scripts")]
     NoSecond,
+    #[error("recovery-pictures: the text is not UTF-8")]
+    NotUtf8,
     #[error("the input cannot be read")]
     Input,
     #[error("out of memory")]
@@ -29,8 +31,11 @@ impl Failure {
     /// Returns the exit status: 2 if the arguments or the text cannot be parsed, else 1.
     pub fn status(&self) -> u8 {
         match self {
-            Failure::Usage | Failure::BadLine(_) | Failure::BadMeasurement(_) | Failure::NoSecond =>
-                2,
+            Failure::Usage
+            | Failure::BadLine(_)
+            | Failure::BadMeasurement(_)
+            | Failure::NoSecond
+            | Failure::NotUtf8 => 2,
             _ => 1,
         }
     }

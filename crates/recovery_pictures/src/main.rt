@@ -16,11 +16,14 @@ use requests::{HELP, Request, VERSION, request_of};
 use std::io::{ErrorKind, Read};
 use std::process::ExitCode;
 
-/// Returns all of the input.
+/// Returns all of the input, which must be UTF-8.
 fn text(rt: &HostRuntime) -> Result<String, Failure> {
     let mut text = String::new(rt.alloc());
-    rt.reader().read_to_string(&mut text)?;
-    Ok(text)
+    match rt.reader().read_to_string(&mut text) {
+        Ok(_) => Ok(text),
+        Err(error) if error.kind() == ErrorKind::InvalidData => Err(Failure::NotUtf8),
+        Err(error) => Err(Failure::Io(error)),
+    }
 }
 
 /// Writes a text. A closed pipe is no failure.
