@@ -163,7 +163,7 @@ enum recovery_awaits {
     RECOVERY_AWAITS_PROBES = 2,
     // The probe timeout that ends a deadlock of the handshake (RFC 9002, 6.2.2.1).
     RECOVERY_AWAITS_DEADLOCK_PROBE = 3,
-    // The next datagram from the peer: the amplification limit permits no byte (RFC 9000, 8.1).
+    // The next datagram from the peer: the amplification limit permits no 1200 bytes (RFC 9000, 8.1).
     RECOVERY_AWAITS_PEER = 4,
     // The confirmation of the handshake: only 1-RTT packets are in flight (RFC 9002, 6.2.1).
     RECOVERY_AWAITS_CONFIRMATION = 5,

@@ -15,6 +15,7 @@ const LATEST_START: Moment = Moment::MAX - 1;
 const GRANULARITY: Span = 1_000_000;
 const MOST_DOUBLINGS: u32 = 16;
 const LOSS_DETECTION: usize = 0;
+const LEAST_DATAGRAM: u16 = 1200; // of a probe (RFC 9000, 14.1)
 
 /// An ACK frame: its ranges have the highest first.
 pub struct Ack {
@@ -261,6 +262,9 @@ impl Sender {
         }
         if fresh {
             self.begin_window();
+        }
+        if moves && fresh {
+            self.pto_count = 0;
         }
         if moves {
             self.previous = (self.first_behind_sample, self.sending_ecn);
@@ -511,7 +515,7 @@ impl Sender {
         if let Some((moment, space)) = looks.min_by_key(|(moment, _)| *moment) {
             return Some((moment, Due::Losses(space)));
         }
-        if !self.may_send(1) {
+        if !self.may_send(LEAST_DATAGRAM) {
             return None;
         }
         let probes = SPACES.iter().filter_map(|space| Some((self.probe_at(*space)?, *space)));

@@ -95,7 +95,7 @@ pub const AWAITS_LOSSES: u8 = 1;
 pub const AWAITS_PROBES: u8 = 2;
 /// The probe timeout that ends a deadlock of the handshake (RFC 9002, 6.2.2.1).
 pub const AWAITS_DEADLOCK_PROBE: u8 = 3;
-/// The next datagram from the peer: the amplification limit permits no byte (RFC 9000, 8.1).
+/// The next datagram from the peer: the amplification limit permits no 1200 bytes (RFC 9000, 8.1).
 pub const AWAITS_PEER: u8 = 4;
 /// The confirmation of the handshake: only 1-RTT packets are in flight (RFC 9002, 6.2.1).
 pub const AWAITS_CONFIRMATION: u8 = 5;

@@ -23,7 +23,7 @@ use Rattle.recovery_sender.specs.Promises.Liveness.{IsAckOwed, loss_time_in}
 use Rattle.recovery_sender.specs.Senders.{state_in}
 use Rattle.recovery_sender.specs.Spaces.{space_in}
 use Rattle.recovery_sender.specs.Timeouts.{IsEarly, TimeoutResult}
-use Rattle.recovery_sender.specs.Timer.{behind, deadlock_space, due_of, has_eliciting, loss_due, may_deadlock, probe_due, probe_in, pto_of, waits}
+use Rattle.recovery_sender.specs.Timer.{behind, deadlock_space, due_of, has_eliciting, loss_due, may_deadlock, probe_due, probe_in, pto_of, waits, least_datagram}
 use Rattle.recovery_sender.proofs.DueLaws.{IfDue, or_has, soonest_has, unless_has}
 use Rattle.recovery_pair.specs.AddressKnown.{Known}
 use Rattle.recovery_pair.specs.Expires.{ActsInTime, AsksIn, ExpiresBy, IsDue, IsLossDue, expired}
@@ -72,7 +72,7 @@ module _ {K P M : Type 0} (recovery : RecoveryState K P M) (variables : Variable
   due_caused : HasCause (due_of recovery variables)
   due_caused = let Cause = λ (due : ℕ × Due). CauseOf due.0 due.1 in
       or_has Cause _ _ (soonest_has Cause (loss_due recovery) (λ space. lost space _ refl))
-      (unless_has Cause (is_blocked recovery.paths.current.state 1) _
+      (unless_has Cause (is_blocked recovery.paths.current.state least_datagram) _
       (or_has Cause _ _ (soonest_has Cause (probe_due recovery variables) (λ space. waiting space _ refl))
       (deadlock _ refl (is_discarded (deadlock_space recovery variables) recovery.discarded) _)))
 

@@ -22,7 +22,7 @@ use Rattle.recovery_sender.specs.declared.sender.probes.Timeout.TheVariants.{Not
 use Rattle.recovery_sender.specs.Senders.{state_in}
 use Rattle.recovery_sender.specs.Timeouts.{IsEarly, TimeoutResult, WaitsForItsTime}
 use Rattle.recovery_sender.specs.Calls.{due_now, space_due}
-use Rattle.recovery_sender.specs.Timer.{soonest, loss_due, probe_in, probe_due, waits, deadlock_space, may_deadlock, due_of, behind, pto_of}
+use Rattle.recovery_sender.specs.Timer.{soonest, loss_due, probe_in, probe_due, waits, deadlock_space, may_deadlock, due_of, behind, pto_of, least_datagram}
 
 -- ---- the earliest of several
 
@@ -105,7 +105,7 @@ module _ {K P M : Type 0} (recovery : RecoveryState K P M) (variables : Variable
       let Here = Lives gone in
       or_has Here _ _ (soonest_has Here (loss_due recovery)
       (λ space. lost gone space (is_discarded space gone) (space_of space recovery.spaces) refl))
-      (unless_has Here (is_blocked recovery.paths.current.state 1) _
+      (unless_has Here (is_blocked recovery.paths.current.state least_datagram) _
       (or_has Here _ _ (soonest_has Here (probe_due recovery variables) probe_there)
       (ended gone last (not (may_deadlock recovery variables)) (is_discarded last gone) _ refl)))
 

@@ -27,7 +27,7 @@ use Rattle.recovery_sender.specs.Promises.Liveness.{IsAckOwed, IsSetFor, NeverSt
 use Rattle.recovery_sender.specs.Promises.Pasts.{ForEveryPast}
 use Rattle.recovery_sender.specs.Senders.{state_in}
 use Rattle.recovery_sender.specs.Spaces.{space_in}
-use Rattle.recovery_sender.specs.Timer.{TimerIsSet, behind, deadlock_due, deadlock_space, due_of, has_eliciting, loss_due, may_deadlock, probe_due, probes_due, pto_of, soonest}
+use Rattle.recovery_sender.specs.Timer.{TimerIsSet, behind, deadlock_due, deadlock_space, due_of, has_eliciting, loss_due, may_deadlock, probe_due, probes_due, pto_of, soonest, least_datagram}
 
 -- ---- if an ack-eliciting packet is tracked, one was sent
 
@@ -178,7 +178,7 @@ module _ {K P M : Type 0} (recovery : RecoveryState K P M) (variables : Variable
   set_to : (due : ℕ × Due) → due_of recovery variables ≡ Some due → moment LossDetection recovery.timers ≡ Some due.0
   set_to due is = set ∙ ap (λ (found : Option (ℕ × Due)). option_map (λ due. due.0) found) is
 
-  module _ (unblocked : is_blocked recovery.paths.current.state 1 ≡ false) where
+  module _ (unblocked : is_blocked recovery.paths.current.state least_datagram ≡ false) where
     -- if an acknowledgement is due in a space, a probe of it is due
     module _ (space : SpaceId) (owed : IsAckOwed recovery variables space) (sent : ℕ)
         (last : owed.here.time_of_last_ack_eliciting_packet ≡ Some sent) where
@@ -250,7 +250,7 @@ module _ {F Q R C K S M P : Type 0} {f : _} {c : _} {q : _} {m : _} {r : _} wher
     deadlock = λ unblocked unknown kept. deadlock_set (state_in sender) variables set unblocked unknown kept;
   }
     where
-      probes : is_blocked (state_in sender).paths.current.state 1 ≡ false → (space : SpaceId)
+      probes : is_blocked (state_in sender).paths.current.state least_datagram ≡ false → (space : SpaceId)
           → IsAckOwed (state_in sender) variables space → IsSetFor (state_in sender) variables space
       probes unblocked space owed = by owed.here.time_of_last_ack_eliciting_packet refl
         where

@@ -18,7 +18,7 @@ use Rattle.recovery_history.specs.History.{QueueModel}
 use Rattle.recovery_history.specs.RecoveryState.{RecoveryState}
 use Rattle.recovery_history.specs.Unlogged.{UnloggedState}
 use Rattle.recovery_history.specs.Transitions.{StateTransition}
-use Rattle.recovery_sender.specs.Timer.{IsOnlyPto, only_pto, pto_of, rtt_or}
+use Rattle.recovery_sender.specs.Timer.{IsOnlyPto, only_pto, pto_of, rtt_or, least_datagram}
 use Rattle.recovery_sender.proofs.TimerUnchangedLaws.{competes_same, only_by_parts, read_of}
 
 -- what a sent packet changes of the variables is no input of the probe timeout
@@ -40,7 +40,7 @@ module _ {K Q S M P : Type 0} (queue : QueueModel Q S M P) (variables : Variable
       (competes_same variables old new discarded Initial (ap read_of (changes.steps.spaces Initial)))
       (competes_same variables old new discarded Handshake (ap read_of (changes.steps.spaces Handshake)))
       (ap (λ (here : Space P M). is_some here.loss_time) (changes.steps.spaces Data).1) discarded
-      (ap (λ (known : PerPath (PathReplyInputs K)). is_blocked known.current.state 1) changes.steps.paths)
+      (ap (λ (known : PerPath (PathReplyInputs K)). is_blocked known.current.state least_datagram) changes.steps.paths)
       (ap (λ (known : PerPath (PathReplyInputs K)). probe_timeout_of (pto_base_of (rtt_or variables.initial_rtt
       known.current.state.rtt)) (ack_delay_in variables Data) (min variables.pto_count 16)) changes.steps.paths)
 

@@ -1,6 +1,6 @@
 -- The loss detection timer by the events so far: it runs while an ack-eliciting packet is outstanding, and is stopped
 -- if nothing is.
-use Rattle.std.proofs.Common.{◌≡◌, ◌≢◌, ◌⊎◌, ◌≤◌, ◌*◌, ◌+◌, ℕ, Bool, true, false, true≢false, cond, nat_lt, List, [], ◌∷◌, Option, None, Some, Ok, Err, option_map, inl, inr, ap, refl, sym, subst, ◌∙◌, arith}
+use Rattle.std.proofs.Common.{◌≡◌, ◌≢◌, ◌⊎◌, ◌≤◌, ◌*◌, ◌+◌, ℕ, Bool, true, false, true≢false, cond, nat_le, nat_lt, List, [], ◌∷◌, Option, None, Some, Ok, Err, option_map, inl, inr, ap, refl, sym, subst, ◌∙◌, arith}
 use Rattle.std.proofs.lemmas.Bool.Decides.{nat_tests}
 use Rattle.std.proofs.lemmas.List.Sums.{sum_by-cons}
 use Rattle.std.proofs.lemmas.Option.{none-some}
@@ -47,7 +47,7 @@ use Rattle.recovery_sender.specs.Promises.Liveness.{HasNoLossDue, IsAckOwed, IsO
 use Rattle.recovery_sender.specs.Promises.Pasts.{ForEveryPast, ForEveryRun}
 use Rattle.recovery_sender.specs.Senders.{state_in}
 use Rattle.recovery_sender.specs.Spaces.{packets_in, space_in}
-use Rattle.recovery_sender.specs.Timer.{TimerIsSet, deadlock_space, due_of, has_eliciting, loss_due, may_deadlock, probe_due, probes_due, tracks_eliciting, waits}
+use Rattle.recovery_sender.specs.Timer.{TimerIsSet, deadlock_space, due_of, has_eliciting, loss_due, may_deadlock, probe_due, probes_due, tracks_eliciting, waits, least_datagram}
 use Rattle.recovery_sender.proofs.PastLaws.{elicits_by_past, tracked_by}
 
 -- ---- a tracked ack-eliciting packet
@@ -149,15 +149,16 @@ module _ {P M : Type 0} where
 
 -- ---- the amplification limit
 
--- a byte more is permitted
-byte_fits : (validated : Bool) (came went : ℕ)
-    → (not validated && nat_lt (3 * came) (went + 1)) ≡ not (validated || nat_lt went (3 * came))
-byte_fits true came went = refl
-byte_fits false came went = grind (arith, nat_tests)
+-- a datagram more is permitted
+datagram_fits : (validated : Bool) (came went : ℕ)
+    → (not validated && nat_lt (3 * came) (went + least_datagram))
+    ≡ not (validated || nat_le (went + least_datagram) (3 * came))
+datagram_fits true came went = refl
+datagram_fits false came went = grind (arith, nat_tests)
 
 module _ {F K Q S M P : Type 0} (beginning : Beginning F K Q S M P) (past : History Q S M P)
     (recovery : RecoveryState K P M) (came : ReachedBy beginning past recovery) where
-  limits : is_blocked recovery.paths.current.state 1 ≡ not (may_send beginning past)
+  limits : is_blocked recovery.paths.current.state least_datagram ≡ not (may_send beginning past)
   limits =
       let flows = kept_after (RepliesAfter beginning) (FlowsAgree beginning) (flows_after beginning)
       (flows_at_first beginning) past came.replies in
@@ -165,8 +166,8 @@ module _ {F K Q S M P : Type 0} (beginning : Beginning F K Q S M P) (past : Hist
       let flags = ap (λ (f : Flow). f.validated) flows.0.0 in
       let received = ap (λ (f : Flow). f.came) flows.0.0 in
       let sent = ap (λ (f : Flow). f.went) flows.0.0 in
-      ap (λ (paths : PerPath (PathReplyInputs K)). is_blocked paths.current.state 1) came.state_after.paths
-      ∙ rw (flags, received, sent) (byte_fits kept.validated kept.came kept.went)
+      ap (λ (paths : PerPath (PathReplyInputs K)). is_blocked paths.current.state least_datagram) came.state_after.paths
+      ∙ rw (flags, received, sent) (datagram_fits kept.validated kept.came kept.went)
 
 -- ---- the timer
 
@@ -182,15 +183,16 @@ module _ {K P M : Type 0} (recovery : RecoveryState K P M) (variables : Variable
       → ((space : SpaceId) → probe_due recovery variables space ≡ None) → may_deadlock recovery variables ≡ false
       → due_of recovery variables ≡ None
   none_due losses probes never =
-      rw (losses Initial, losses Handshake, losses Data) (by (is_blocked recovery.paths.current.state 1) refl)
+      rw (losses Initial, losses Handshake, losses Data)
+      (by (is_blocked recovery.paths.current.state least_datagram) refl)
     where
-      by : (blocked : Bool) → is_blocked recovery.paths.current.state 1 ≡ blocked
+      by : (blocked : Bool) → is_blocked recovery.paths.current.state least_datagram ≡ blocked
           → probes_due recovery variables ≡ None
       by true is = rw is refl
       by false is = rw (is, probes Initial, probes Handshake, probes Data, never) refl
 
   blocked_due : ((space : SpaceId) → loss_due recovery space ≡ None)
-      → is_blocked recovery.paths.current.state 1 ≡ true → due_of recovery variables ≡ None
+      → is_blocked recovery.paths.current.state least_datagram ≡ true → due_of recovery variables ≡ None
   blocked_due losses is = rw (losses Initial, losses Handshake, losses Data, is) refl
 
   no_probe : (space : SpaceId) → (is_discarded space recovery.discarded ≡ false
@@ -268,7 +270,7 @@ module _ {F Q R C K S M P : Type 0} {f : _} {c : _} {q : _} {m : _} {r : _} (sen
       by true is = absurd (none space (outstanding_here space kept is))
       by false is = is
 
-  free : may_send begun past ≡ true → is_blocked state.paths.current.state 1 ≡ false
+  free : may_send begun past ≡ true → is_blocked state.paths.current.state least_datagram ≡ false
   free may = limits begun past state came ∙ ap not may
 
   -- it is set while a packet is outstanding

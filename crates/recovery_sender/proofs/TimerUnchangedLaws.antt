@@ -39,7 +39,7 @@ use Rattle.recovery_sender.specs.Calls.{transmit_steps}
 use Rattle.recovery_sender.specs.TimerUnchanged.{leaves_timer}
 use Rattle.recovery_sender.specs.Steps.{StepsLeadTo}
 use Rattle.recovery_losses.specs.Variables.{ack_delay_in, is_address_validated}
-use Rattle.recovery_sender.specs.Timer.{IsOnlyPto, behind, competes, deadlock_by, deadlock_due, due_of, has_eliciting, loss_due, may_deadlock, probe_due, probe_in, only_pto, pto_of, rtt_or, soonest, tracks_eliciting, waits, TimerIsSet}
+use Rattle.recovery_sender.specs.Timer.{IsOnlyPto, behind, competes, deadlock_by, deadlock_due, due_of, has_eliciting, loss_due, may_deadlock, probe_due, probe_in, only_pto, pto_of, rtt_or, soonest, tracks_eliciting, waits, TimerIsSet, least_datagram}
 
 -- ---- the inputs of a space
 
@@ -112,17 +112,17 @@ module _ {K P M : Type 0} (variables : Variables) where
 
   pub only_of : (recovery : RecoveryState K P M) → only_pto recovery variables
       ≡ only_if (competes recovery variables Initial) (competes recovery variables Handshake)
-      (is_discarded Data recovery.discarded) (lost_in recovery) (is_blocked recovery.paths.current.state 1)
+      (is_discarded Data recovery.discarded) (lost_in recovery) (is_blocked recovery.paths.current.state least_datagram)
       (not variables.is_handshake_confirmed) (pto_of recovery variables Data)
   only_of recovery = go (competes recovery variables Initial || competes recovery variables Handshake)
       (is_discarded Data recovery.discarded)
     where
       go : (more gone : Bool)
           → (if more then None else option_and_then (λ (here : Space P M). if is_some here.loss_time
-          || is_blocked recovery.paths.current.state 1 || not variables.is_handshake_confirmed then None
+          || is_blocked recovery.paths.current.state least_datagram || not variables.is_handshake_confirmed then None
           else Some (pto_of recovery variables Data)) (if gone then None else Some (space_of Data recovery.spaces)))
           ≡ (if more then None else if gone then None else if lost_in recovery
-          || is_blocked recovery.paths.current.state 1 || not variables.is_handshake_confirmed then None
+          || is_blocked recovery.paths.current.state least_datagram || not variables.is_handshake_confirmed then None
           else Some (pto_of recovery variables Data))
       go true gone = refl
       go false true = refl
@@ -132,7 +132,7 @@ module _ {K P M : Type 0} (variables : Variables) where
       → competes new variables Initial ≡ competes old variables Initial
       → competes new variables Handshake ≡ competes old variables Handshake
       → lost_in new ≡ lost_in old → new.discarded ≡ old.discarded
-      → is_blocked new.paths.current.state 1 ≡ is_blocked old.paths.current.state 1
+      → is_blocked new.paths.current.state least_datagram ≡ is_blocked old.paths.current.state least_datagram
       → pto_of new variables Data ≡ pto_of old variables Data
       → only_pto new variables ≡ only_pto old variables
   only_by_parts old new initial handshake lost discarded blocked pto =
@@ -142,7 +142,7 @@ module _ {K P M : Type 0} (variables : Variables) where
         competes new variables Handshake,
         is_discarded Data new.discarded,
         lost_in new,
-        is_blocked new.paths.current.state 1,
+        is_blocked new.paths.current.state least_datagram,
         pto_of new variables Data,
       )
       ≡ (
@@ -150,7 +150,7 @@ module _ {K P M : Type 0} (variables : Variables) where
         competes old variables Handshake,
         is_discarded Data old.discarded,
         lost_in old,
-        is_blocked old.paths.current.state 1,
+        is_blocked old.paths.current.state least_datagram,
         pto_of old variables Data,
       ) = cc in
       only_of new ∙ ap (λ (it : Bool × Bool × Bool × Bool × Bool × ℕ). only_if it.0 it.1 it.2 it.3 it.4
@@ -201,7 +201,8 @@ module _ {K P M : Type 0} (variables : Variables) (old new : RecoveryState K P M
     (spaces : (space : SpaceId) → read_of (space_of space new.spaces) ≡ read_of (space_of space old.spaces))
     (discarded : new.discarded ≡ old.discarded)
     (rtt : new.paths.current.state.rtt ≡ old.paths.current.state.rtt)
-    (blocked : is_blocked new.paths.current.state 1 ≡ is_blocked old.paths.current.state 1) where
+    (blocked : is_blocked new.paths.current.state least_datagram
+    ≡ is_blocked old.paths.current.state least_datagram) where
   pto_same : (space : SpaceId) → pto_of new variables space ≡ pto_of old variables space
   pto_same space = ap (λ rtt. probe_timeout_of (pto_base_of (rtt_or variables.initial_rtt rtt))
       (ack_delay_in variables space) (min variables.pto_count 16)) rtt
@@ -256,12 +257,12 @@ module _ {K P M : Type 0} (variables : Variables) (old new : RecoveryState K P M
       let deadlock = deadlock_same in
       let same : (
         soonest (loss_due new),
-        is_blocked new.paths.current.state 1,
+        is_blocked new.paths.current.state least_datagram,
         soonest (probe_due new variables),
         deadlock_due new variables,
       ) ≡ (
         soonest (loss_due old),
-        is_blocked old.paths.current.state 1,
+        is_blocked old.paths.current.state least_datagram,
         soonest (probe_due old variables),
         deadlock_due old variables,
       ) = cc in
@@ -287,7 +288,7 @@ plain_same plain = (plain.discarded, plain.timers)
 module _ {K P M : Type 0} (variables : Variables) (old new : RecoveryState K P M) where
   same_set : ((space : SpaceId) → read_of (space_of space new.spaces) ≡ read_of (space_of space old.spaces))
       → new.paths.current.state.rtt ≡ old.paths.current.state.rtt
-      → is_blocked new.paths.current.state 1 ≡ is_blocked old.paths.current.state 1
+      → is_blocked new.paths.current.state least_datagram ≡ is_blocked old.paths.current.state least_datagram
       → plain_same (plain_of new) ≡ plain_same (plain_of old) → timing_in new variables ≡ timing_in old variables
   same_set spaces rtt blocked plain = timing_same variables old new spaces
       (ap (λ (it : DiscardedSpaces × TimerTable). it.0) plain) rtt blocked
@@ -300,11 +301,11 @@ module _ {K P M : Type 0} (variables : Variables) (old new : RecoveryState K P M
       let state : new.paths.current.state ≡ old.paths.current.state =
       ap (λ (known : PerPath (PathReplyInputs K)). known.current.state) paths in
       same_set spaces (ap (λ (state : PathState K). state.rtt) state)
-      (ap (λ (state : PathState K). is_blocked state 1) state) plain
+      (ap (λ (state : PathState K). is_blocked state least_datagram) state) plain
 
   -- the path is not limited, and remains so
   unblocked : old.paths.current.state.validated ≡ true → new.paths.current.state.validated ≡ true
-      → is_blocked new.paths.current.state 1 ≡ is_blocked old.paths.current.state 1
+      → is_blocked new.paths.current.state least_datagram ≡ is_blocked old.paths.current.state least_datagram
   unblocked before after = rw (before, after) refl
 
 module _ {K Q S M P : Type 0} (queue : QueueModel Q S M P) (variables : Variables) (old new : RecoveryState K P M) where
@@ -335,7 +336,8 @@ module _ {K Q S M P : Type 0} (queue : QueueModel Q S M P) (variables : Variable
   left_by (PacerCheck now bytes) answer is changes =
       let asked = ap (λ (known : PerPath (PathReplyInputs K)). known.current.state) changes.steps.paths in
       same_set variables old new (λ there. ap read_of (changes.steps.spaces there))
-      (ap (λ (state : PathState K). state.rtt) asked) (ap (λ (state : PathState K). is_blocked state 1) asked)
+      (ap (λ (state : PathState K). state.rtt) asked)
+      (ap (λ (state : PathState K). is_blocked state least_datagram) asked)
       (ap plain_same changes.plain)
   left_by (NewId frame) answer is changes = by_spaces variables old new
       (λ there. ap read_of (changes.steps.spaces there)) changes.steps.paths (ap plain_same changes.plain.1)

@@ -152,10 +152,18 @@ forgets_rtt (events.NewPath now remote is_fresh) = is_fresh
 forgets_rtt (events.ResetPath now) = true
 forgets_rtt event = false
 
--- then the initial RTT that the caller set no longer applies
-abbrev pub rtt_forgotten : {Q S M P : Type 0} → Event Q S M P → Variables → Variables
-rtt_forgotten event variables =
-    record variables { initial_rtt = (if forgets_rtt event then None else variables.initial_rtt) }
+-- an event that makes a path of which nothing is known
+abbrev pub makes_fresh_path : {Q S M P : Type 0} → Event Q S M P → Bool
+makes_fresh_path (events.NewPath now remote is_fresh) = is_fresh
+makes_fresh_path event = false
+
+-- With the RTT of the path, the initial RTT that the caller set no longer applies. A fresh path begins without backoff:
+-- the probe timeouts before were those of another path (RFC 9000, 9.4; RFC 9002, 6.2.1).
+abbrev pub on_other_path : {Q S M P : Type 0} → Event Q S M P → Variables → Variables
+on_other_path event variables = record variables {
+  initial_rtt = (if forgets_rtt event then None else variables.initial_rtt);
+  pto_count = (if makes_fresh_path event then 0 else variables.pto_count);
+}
 
 -- the loss times are computed again with the RTT of the path in use
 pub record RenewsLossTimes {F Q R C K S M P : Type 0} {f : _} {c : _} {q : _} {m : _} {r : _}
@@ -180,7 +188,7 @@ module _ {F Q R C K S M P : Type 0} {f : _} {c : _} {q : _} {m : _} {r : _} (eve
   pub record ChangesPath (answer : Answer Q) : Type 0 where
     pub between : Sender F Q R C K S M P f c q m r
     pub goes : TakesSteps (told event (Ok answer) ∷ []) old between
-    pub renews : ChangesRtt (rtt_forgotten event between.variables) between new
+    pub renews : ChangesRtt (on_other_path event between.variables) between new
 
   abbrev pub PathEventResult : Result (Answer Q) SenderError → Type 0
   PathEventResult (Ok answer) = ChangesPath answer

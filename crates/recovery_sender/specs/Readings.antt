@@ -11,9 +11,9 @@ use Rattle.recovery_losses.specs.declared.variables.Variables.{Variables}
 use Rattle.recovery_sender.specs.declared.sender.readings.TimerState.{TimerState}
 use Rattle.recovery_sender.specs.declared.sender.readings.TimerState.TheVariants.{Set, Blocked, Unconfirmed, Idle}
 use Rattle.recovery_sender.specs.Calls.{bytes_in_flight, window_of}
-use Rattle.recovery_sender.specs.Timer.{due_of, tracks_eliciting}
+use Rattle.recovery_sender.specs.Timer.{due_of, tracks_eliciting, least_datagram}
 
--- why nothing is due: the amplification limit permits no byte, only 1-RTT packets are in flight and wait for the
+-- why nothing is due: the amplification limit permits no datagram, only 1-RTT packets are in flight and wait for the
 -- handshake, or no ack-eliciting packet is in flight
 abbrev pub timer_unset : (blocked unconfirmed : Bool) → TimerState
 timer_unset blocked unconfirmed = if blocked then Blocked else if unconfirmed then Unconfirmed else Idle
@@ -25,7 +25,8 @@ timer_state_by (Some due) blocked unconfirmed = Set due.0 due.1
 module _ {K P M : Type 0} (recovery : RecoveryState K P M) where
   -- what the timer is set for, or why it is not set
   abbrev pub timer_state : Variables → TimerState
-  timer_state variables = timer_state_by (due_of recovery variables) (is_blocked recovery.paths.current.state 1)
+  timer_state variables = timer_state_by (due_of recovery variables)
+      (is_blocked recovery.paths.current.state least_datagram)
       (not variables.is_handshake_confirmed && tracks_eliciting recovery variables Data)
 
   -- how many bytes the amplification limit permits, if it applies to the path in use

@@ -42,6 +42,10 @@ rtt_or (Some initial) rtt = if is_some rtt.smoothed then rtt else rtt_made initi
 abbrev pub has_eliciting : {P M : Type 0} → Packets P M → Bool
 has_eliciting packets = list_any (λ entry. entry.1.ack_eliciting) packets
 
+-- what a probe needs: a datagram with an ack-eliciting Initial packet has at least this size, in bytes (RFC 9000, 14.1)
+abbrev pub least_datagram : ℕ
+least_datagram = 1200
+
 -- ---- durations
 
 module _ {K P M : Type 0} (recovery : RecoveryState K P M) where
@@ -99,9 +103,10 @@ module _ {K P M : Type 0} (recovery : RecoveryState K P M) (variables : Variable
   abbrev pub deadlock_due : Option (ℕ × Due)
   deadlock_due = deadlock_by may_deadlock
 
-  -- probes are due, and a deadlock is to be ended, while the path in use may send a byte (RFC 9000, 8.1)
+  -- probes are due, and a deadlock is to be ended, while the path in use may send a datagram (RFC 9000, 8.1; RFC 9002,
+  -- 6.2.2.1)
   abbrev pub probes_due : Option (ℕ × Due)
-  probes_due = if is_blocked recovery.paths.current.state 1 then None
+  probes_due = if is_blocked recovery.paths.current.state least_datagram then None
       else option_or (soonest probe_due) deadlock_due
 
   -- the losses of a space come first (RFC 9002, A.8: SetLossDetectionTimer)
@@ -114,10 +119,10 @@ module _ {K P M : Type 0} (recovery : RecoveryState K P M) (variables : Variable
       option_map_or (λ here. is_some here.loss_time || has_eliciting (packets_of here)) (space_in recovery space) false
 
   -- The probe timeout of 1-RTT packets, if no loss and no probe of another space may be due. So it is after the
-  -- handshake, while no packet is suspected lost and the path in use may send a byte.
+  -- handshake, while no packet is suspected lost and the path in use may send a datagram.
   abbrev pub only_pto : Option ℕ
   only_pto = if competes Initial || competes Handshake then None
-      else option_and_then (λ here. if is_some here.loss_time || is_blocked recovery.paths.current.state 1
+      else option_and_then (λ here. if is_some here.loss_time || is_blocked recovery.paths.current.state least_datagram
       || not variables.is_handshake_confirmed then None else Some (pto_of recovery variables Data))
       (space_in recovery Data)
 

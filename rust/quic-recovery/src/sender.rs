@@ -315,7 +315,8 @@ pub enum TimerState {
         /// When the timer expires.
         at: Instant,
     },
-    /// The next datagram from the peer: the amplification limit lets no byte out (RFC 9000, 8.1).
+    /// The next datagram from the peer: the amplification limit permits no datagram of 1200 bytes (RFC 9000, 8.1 and
+    /// 14.1).
     Blocked,
     /// The confirmation of the handshake: only 1-RTT packets are in flight, which are not probed for before (RFC 9002,
     /// 6.2.1), and the space of a deadlock probe is discarded. If the handshake is confirmed,

@@ -1,5 +1,5 @@
 -- It never stalls (RFC 9002, 6.2 and 6.2.2.1): the loss detection timer is set while an acknowledgement is due.
-use Rattle.std.specs.Prelude.{◌≡◌, ◌≢◌, ℕ, ◌*◌, ◌≤◌, ◌⊎◌, ◌&&◌, ◌||◌, not, nat_lt, sum_by, Bool, true, false, Option, [], ◌∷◌, None, Some, Ok, if◌then◌else◌}
+use Rattle.std.specs.Prelude.{◌≡◌, ◌≢◌, ℕ, ◌+◌, ◌*◌, ◌≤◌, ◌⊎◌, ◌&&◌, ◌||◌, not, nat_le, sum_by, Bool, true, false, Option, [], ◌∷◌, None, Some, Ok, if◌then◌else◌}
 use Rattle.std.specs.Option.{option_and_then}
 use Rattle.recovery_base.specs.declared.below.SpaceId.{SpaceId}
 use Rattle.recovery_base.specs.declared.below.SpaceId.TheVariants.{Initial, Handshake, Data}
@@ -22,7 +22,7 @@ use Rattle.recovery_losses.specs.declared.variables.Variables.{Variables}
 use Rattle.recovery_losses.specs.Variables.{is_address_validated}
 use Rattle.recovery_sender.specs.Promises.Lost.{elicits_by}
 use Rattle.recovery_sender.specs.Spaces.{space_in}
-use Rattle.recovery_sender.specs.Timer.{behind, deadlock_space, has_eliciting, may_deadlock, pto_of, waits}
+use Rattle.recovery_sender.specs.Timer.{behind, deadlock_space, has_eliciting, least_datagram, may_deadlock, pto_of, waits}
 
 -- when the next packet of a space is lost by its age
 abbrev pub loss_time_in : {K P M : Type 0} → RecoveryState K P M → SpaceId → Option ℕ
@@ -49,14 +49,15 @@ module _ {K P M : Type 0} (recovery : RecoveryState K P M) (variables : Variable
         ⊎ ((sent : ℕ) × (option_and_then (λ here. here.time_of_last_ack_eliciting_packet) (space_in recovery space)
         ≡ Some sent) × (time ≤ behind sent (pto_of recovery variables space)))
 
-  -- while the amplification limit permits a byte (RFC 9000, 8.1)
+  -- while the amplification limit permits a datagram (RFC 9000, 8.1)
   pub record NeverStalls : Type 0 where
-    pub probes : is_blocked recovery.paths.current.state 1 ≡ false → (space : SpaceId) → IsAckOwed space
+    pub probes : is_blocked recovery.paths.current.state least_datagram ≡ false → (space : SpaceId) → IsAckOwed space
         → IsSetFor space
     -- a possible deadlock is ended. The timer is set at a client that does not know its address validated, whatever it
     -- tracks (RFC 9002, 6.2.2.1). It is set at both endpoints while 1-RTT packets are in flight before the handshake is
     -- confirmed.
-    pub deadlock : is_blocked recovery.paths.current.state 1 ≡ false → may_deadlock recovery variables ≡ true
+    pub deadlock : is_blocked recovery.paths.current.state least_datagram ≡ false
+        → may_deadlock recovery variables ≡ true
         → is_discarded (deadlock_space recovery variables) recovery.discarded ≡ false
         → moment LossDetection recovery.timers ≢ None
 
@@ -91,10 +92,10 @@ module _ {Q S M P : Type 0} (past : History Q S M P) where
         × (last_sent_at space past ≡ Some sent) × (time ≤ behind sent (pto_of recovery variables space)))
 
 module _ {F K Q S M P : Type 0} (beginning : Beginning F K Q S M P) (past : History Q S M P) where
-  -- the amplification limit permits a byte on the path in use, by the events so far (RFC 9000, 8.1)
+  -- the amplification limit permits a datagram on the path in use, by the events so far (RFC 9000, 8.1)
   abbrev pub may_send : Bool
   may_send = is_validated beginning.config.validated Current past
-      || nat_lt (sum_by bytes_out (datagrams_on Current past))
+      || nat_le (sum_by bytes_out (datagrams_on Current past) + least_datagram)
       (amplification_factor * sum_by bytes_in (datagrams_on Current past))
 
   -- the loss detection timer, by the events so far (RFC 9002, 6.2.1, 6.2.2.1 and A.8)
@@ -110,7 +111,7 @@ module _ {F K Q S M P : Type 0} (beginning : Beginning F K Q S M P) (past : Hist
         → (is_address_validated variables ≡ false)
         ⊎ ((variables.is_handshake_confirmed ≡ false) × IsOutstanding past Data)
         → timer_value past LossDetection ≢ None
-    -- It is stopped if no packet is suspected lost, and the amplification limit permits no byte.
+    -- It is stopped if no packet is suspected lost, and the amplification limit permits no datagram.
     pub blocked : HasNoLossDue recovery → may_send ≡ false → timer_value past LossDetection ≡ None
     -- It is stopped if no packet is suspected lost, and nothing is outstanding at an endpoint that knows its address
     -- validated.

@@ -1,10 +1,10 @@
 //! New senders, and the events that a sender passes to its recovery.
-ghost use Rattle.std.specs.Prelude.{◌≡◌, Some, true, ◌<◌, ◌≤◌, ◌+◌, ◌-◌, ◌∷◌, [], Ok, IfOk, OnOk, OnErr, Decides};
+ghost use Rattle.std.specs.Prelude.{◌≡◌, Some, true, ◌<◌, ◌≤◌, ◌+◌, ◌-◌, ◌∷◌, [], Ok, IfOk, OnOk, OnErr, Decides, if◌then◌else◌};
 ghost use Rattle.recovery_base.specs.Units.{number_limit, u64_limit};
 ghost use Rattle.recovery_packet_numbers.specs.Skips.{IsSkips};
 ghost use Rattle.recovery_history.specs.EventBounds.{StaysInBounds};
 ghost use Rattle.recovery_sender.specs.Bounds.{latest_start, MakesPathEarly};
-ghost use Rattle.recovery_sender.specs.Calls.{backdated, challenged, changes_path, config_of, datagram_reply, elicits_in, forgets_rtt, thresholds_in, to_send, IsNewSender, IsPassedThrough, EventResult, ChangesRtt, PathEventResult};
+ghost use Rattle.recovery_sender.specs.Calls.{backdated, challenged, changes_path, config_of, datagram_reply, elicits_in, forgets_rtt, makes_fresh_path, thresholds_in, to_send, IsNewSender, IsPassedThrough, EventResult, ChangesRtt, PathEventResult};
 ghost use Rattle.recovery_sender.specs.TimerUnchanged.{leaves_timer};
 ghost use Rattle.recovery_sender.specs.Senders.{state_in};
 ghost use Rattle.recovery_sender.specs.Steps.{marked, told, TakesSteps, CompletesCall};
@@ -89,6 +89,23 @@ fn forgets_rtt<Q: RetransmitQueue>(event: &Event<Q>) -> bool
         Event::ResetPath { .. } => true,
         _ => false,
     }
+}
+
+/// Returns whether an event makes a path of which nothing is known.
+fn makes_fresh_path<Q: RetransmitQueue>(event: &Event<Q>) -> bool
+    ensures { result ≡ makes_fresh_path event.now }
+{
+    match event {
+        Event::NewPath { fresh, .. } => *fresh,
+        _ => false,
+    }
+}
+
+/// Returns how many consecutive probe timeouts count on a path, of those before it was in use.
+fn pto_count_on(is_fresh: bool, before: u32) -> u32
+    ensures { result ≡ (if is_fresh then 0 else before) }
+{
+    if is_fresh { 0 } else { before }
 }
 
 /// Returns when an event is to send what counts in flight.
@@ -260,16 +277,22 @@ where
         }
     }
 
-    /// Applies an event that changes or resets the path in use. Loss times then follow from its RTT.
+    /// Applies an event that changes or resets the path in use. Loss times then follow from its RTT. A fresh path
+    /// begins without backoff: the timeouts before were those of another path.
     fn change_path(&mut self, event: Event<Q>) -> Result<Answer<Q>, SenderError>
         requires stays { StaysInBounds latest_start (state_in self.old) event }
         ensures { PathEventResult event self.old self.new result }
     {
         let forgets = forgets_rtt(&event);
+        let is_fresh = makes_fresh_path(&event);
         match self.apply(event) {
             Ok(answer) => {
                 let variables = self.variables;
-                self.change_rtt(variables.initial_rtt_after(forgets));
+                self.change_rtt(Variables {
+                    initial_rtt: variables.initial_rtt_after(forgets),
+                    pto_count: pto_count_on(is_fresh, variables.pto_count),
+                    ..variables
+                });
                 Ok(answer)
             }
             Err(refusal) => Err(SenderError::Event(refusal)),
@@ -285,30 +308,28 @@ where
         ensures { ChangesRtt (record self.old.variables { initial_rtt = Some rtt }) self.old
             self.new }
     {
-        self.change_rtt(Some(rtt));
+        self.change_rtt(Variables {
+            initial_rtt: Some(rtt),
+            ..self.variables
+        });
     }
 
-    /// Stores the initial RTT, computes the loss times again, and sets the timer.
-    fn change_rtt(&mut self, initial_rtt: Option<Duration>)
-        ensures { ChangesRtt (record self.old.variables { initial_rtt = initial_rtt }) self.old
-            self.new }
+    /// Stores variables with another RTT, computes the loss times again, and sets the timer.
+    fn change_rtt(&mut self, variables: Variables)
+        ensures { ChangesRtt variables self.old self.new }
     {
-        self.keep_initial_rtt(initial_rtt);
+        self.keep_variables(variables);
         self.renew_loss_times();
         self.set_loss_detection_timer();
     }
 
-    /// Stores the initial RTT. This may move the timer.
-    fn keep_initial_rtt(&mut self, initial_rtt: Option<Duration>)
+    /// Stores variables. This may move the timer.
+    fn keep_variables(&mut self, variables: Variables)
         ensures same { state_in self.new ≡ state_in self.old }
-        ensures variables { self.new.variables
-            ≡ (record self.old.variables { initial_rtt = initial_rtt }) }
+        ensures variables { self.new.variables ≡ variables }
     {
         self.is_timer_current = false;
-        self.variables = Variables {
-            initial_rtt,
-            ..self.variables
-        };
+        self.variables = variables;
     }
 
     /// Returns an MTU probe to send, if one is due, and tracks it, as [`Event::PollMtu`] and with its errors. The

@@ -8,6 +8,7 @@ ghost use Rattle.recovery_sender.specs.Senders.{state_in};
 ghost use Rattle.recovery_sender.specs.Spaces.{packets_in};
 
 use super::Sender;
+use super::timer::LEAST_DATAGRAM;
 use rand_core::Rng;
 use recovery_base::below::SpaceId;
 use recovery_base::time::Instant;
@@ -20,7 +21,8 @@ use recovery_queue::queue::RetransmitQueue;
 pub enum TimerState {
     /// It is set to this time, for this purpose.
     Set(Instant, Due),
-    /// The amplification limit permits no byte (RFC 9000, 8.1). The next datagram from the peer sets the timer.
+    /// The amplification limit permits no datagram of 1200 bytes (RFC 9000, 8.1 and 14.1). The next datagram from the
+    /// peer sets the timer.
     Blocked,
     /// Only 1-RTT packets are in flight. They are probed for once the handshake is confirmed (RFC 9002, 6.2.1): if it
     /// is, `on_handshake_confirmed` was not called.
@@ -54,7 +56,7 @@ where
     {
         if let Some((time, due)) = self.due() {
             TimerState::Set(time, due)
-        } else if self.path().anti_amplification_blocked(1) {
+        } else if self.path().anti_amplification_blocked(LEAST_DATAGRAM) {
             TimerState::Blocked
         } else if !self.variables.is_handshake_confirmed && self.tracks_eliciting(SpaceId::Data) {
             TimerState::Unconfirmed

@@ -26,6 +26,10 @@ use recovery_paths::paths::PathData;
 use recovery_queue::queue::RetransmitQueue;
 use recovery_spaces::spaces::PacketSpace;
 
+/// A probe timeout is set only while the amplification limit permits a datagram of this size, in bytes: ack-eliciting
+/// Initial packets are padded to it (RFC 9000, 14.1). Without room for a probe the timer would expire again and again.
+pub(super) const LEAST_DATAGRAM: u64 = 1200;
+
 /// Returns whether a packet tracked in a space is ack-eliciting (RFC 9002, 2).
 fn has_eliciting<Q>(here: &PacketSpace<Q>) -> bool
 where
@@ -210,7 +214,7 @@ where
         }
         let here = self.space(SpaceId::Data)?;
         if here.loss_time.is_some()
-            || self.path().anti_amplification_blocked(1)
+            || self.path().anti_amplification_blocked(LEAST_DATAGRAM)
             || !self.variables.is_handshake_confirmed
         {
             return None;
@@ -250,7 +254,7 @@ where
         if losses.is_some() {
             return losses;
         }
-        if self.path().anti_amplification_blocked(1) {
+        if self.path().anti_amplification_blocked(LEAST_DATAGRAM) {
             return None;
         }
         let probes = sooner(
