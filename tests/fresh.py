@@ -36,8 +36,8 @@ fn main() {
 # what is tried where compilers are, each with a part of what it prints
 CALLS = [
     ("an example in Rust", "cd rust/quic-recovery && cargo run --offline --release --example sender", "all 200 were acknowledged"),
-    ("a crate of one's own", """cd /tmp && cargo new --quiet --vcs none own && cd own && cargo add --quiet --offline --path "$OLDPWD/rust/quic-recovery" &&
-        cat >src/main.rs && cargo run --offline""", "Transmitted"),
+    ("a crate of one's own", """clone=$PWD && cd /tmp && cargo new --quiet --vcs none own && cd own &&
+        cargo add --quiet --offline --path "$clone/rust/quic-recovery" && cat >src/main.rs && cargo run --offline""", "Transmitted"),
     ("a package", "make package CARGOFLAGS=--offline", "Packaged"),
     ("a program in C", """make install PREFIX="/tmp/it's here" && export PKG_CONFIG_PATH="/tmp/it's here/lib/pkgconfig" &&
         eval cc -O2 rust/c/transfer.c "$(pkg-config --cflags --libs quic-recovery-static)" -o /tmp/transfer && /tmp/transfer""",
