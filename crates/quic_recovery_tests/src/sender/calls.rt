@@ -256,6 +256,7 @@ fn a_server(rt: HostRuntime) {
         ),
         (Call::Send(0, 1200, initial), Said::Sent(0), None),
         (Call::Transmit(0, 1, initial, true), Said::Blocked, None),
+        (Call::Datagram(399), Said::Done, None),
         (Call::Datagram(1), Said::Done, Some(999_000_000)),
         (Call::Discard(0, initial), Said::Done, None),
         (
@@ -348,6 +349,8 @@ fn states_that_are_read(rt: HostRuntime) {
             None,
         ),
         (Call::Send(0, 1200, initial), Said::Sent(0), None),
+        (Call::State, Said::AwaitsPeer, None),
+        (Call::Datagram(399), Said::Done, None),
         (Call::State, Said::AwaitsPeer, None),
         (Call::Datagram(1), Said::Done, first),
         (Call::State, Said::AwaitsProbes(initial), first),
