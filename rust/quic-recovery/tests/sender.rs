@@ -533,7 +533,7 @@ fn a_packet_threshold() {
 fn the_rest_of_a_probe() {
     let (space, mut told) = (SpaceId::Data, Acknowledged::default());
     let mut sender = Sender::established(Side::Client, &RecoveryConfig::default(), at(1)).unwrap();
-    let mut send = |sender: &mut Sender, now: Instant, items: &[u64]| {
+    let send = |sender: &mut Sender, now: Instant, items: &[u64]| {
         let goes = sender.transmit(now, 1000, space, true).unwrap();
         assert_eq!(goes, Transmission::Transmitted);
         sender.send(space, now, 1000, true, None, items).unwrap();
