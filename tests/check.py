@@ -19,6 +19,7 @@ After ctrl-C, ./check stops all that it started. It reports what had passed, and
 """
 import argparse
 import contextlib
+import functools
 import os
 import pathlib
 import re
@@ -303,9 +304,9 @@ def warn_of_bits():
 def work(counts):
     """Runs the steps in order, and notes after each what passed and failed. If a step fails, the later ones are left out."""
     warn_of_bits()
-    for step, given in [(script, READINGS), (gate, [None]), (script, SCRIPTS)]:
-        for it in given:
-            counts.append(step(it) if it else step())
+    for steps in [functools.partial(script, it) for it in READINGS], [gate], [functools.partial(script, it) for it in SCRIPTS]:
+        for step in steps:
+            counts.append(step())
         if any(failed for _, failed, _ in counts):
             return
 

@@ -5,7 +5,6 @@ for a tenth more, and no event may be named in far more files than the others.
 
 Each event, error and timer must also be in every list of them that is written by hand, with the name and number that the library has. What
 is printed names the list, what is missing there, and for an event what to write."""
-import pathlib
 import re
 import sys
 

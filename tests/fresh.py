@@ -36,13 +36,13 @@ fn main() {
 # what is tried where compilers are, each with a part of what it prints
 CALLS = [
     ("an example in Rust", "cd rust/quic-recovery && cargo run --offline --release --example sender", "all 200 were acknowledged"),
-    ("a crate of one's own", """clone=$PWD && cd /tmp && cargo new --quiet --vcs none own && cd own &&
+    ("a crate of one's own", """clone=$PWD && cd && cargo new --quiet --vcs none own && cd own &&
         cargo add --quiet --offline --path "$clone/rust/quic-recovery" && cat >src/main.rs && cargo run --offline""", "Transmitted"),
     ("a package", "make package CARGOFLAGS=--offline", "Packaged"),
-    ("a program in C", """make install PREFIX="/tmp/it's here" && export PKG_CONFIG_PATH="/tmp/it's here/lib/pkgconfig" &&
-        eval cc -O2 rust/c/transfer.c "$(pkg-config --cflags --libs quic-recovery-static)" -o /tmp/transfer && /tmp/transfer""",
+    ("a program in C", """make install PREFIX="$HOME/it's here" && export PKG_CONFIG_PATH="$HOME/it's here/lib/pkgconfig" &&
+        eval cc -O2 rust/c/transfer.c "$(pkg-config --cflags --libs quic-recovery-static)" -o ~/transfer && ~/transfer""",
      "200 of 200 items were acknowledged"),
-    ("a program in C++", "g++ -Wall -Wextra -Werror -Irust/c rust/c/main.cpp prebuilt/*/libquic_recovery.a -o /tmp/main && /tmp/main && echo it ends well",
+    ("a program in C++", "g++ -Wall -Wextra -Werror -Irust/c rust/c/main.cpp prebuilt/*/libquic_recovery.a -o ~/main && ~/main && echo it ends well",
      "it ends well"),
 ]
 

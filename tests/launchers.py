@@ -288,7 +288,7 @@ class TwoAtOnce(Placed):
         for call, name in (first, "recovery_paths"), (second, "recovery_queue"):
             said = call.communicate(timeout=SECONDS)[1]
             self.assertEqual((call.returncode, said.splitlines()[-1]), (0, f"prove: {name} is proved and built"))
-        kept = [it for it in tree.made_of("recovery_paths") if not (self.place.root / "crates" / it / "out" / tree.mark_of_rlib(it)).is_file()]
+        kept = [it for it in tree.made_of("recovery_paths") if not (self.place.root / "crates" / it / "out" / tree.rlib_format(it)).is_file()]
         self.assertEqual(kept, [], "what both proved is kept")
 
 

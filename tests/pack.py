@@ -212,6 +212,14 @@ class Rejected(PackTest):
             self.need("make")
             self.not_installed("is not the one that SHA256SUMS lists")
 
+    def test_file_that_is_not_listed(self):
+        more = PLACE.root / AT / "bin" / "recovery-more"
+        more.touch()
+        self.addCleanup(more.unlink)
+        self.fails(f"dist: {AT}/bin/recovery-more is not the file that SHA256SUMS lists\n", ["./dist", "--sums"])
+        self.need("make")
+        self.not_installed("bin/recovery-more\nmake: SHA256SUMS lists no such file")
+
     def test_changed_archive(self):
         other = f"{ARCHIVE} is not the file that SHA256SUMS lists"
         with changed(PLACE.root / ARCHIVE, flipped):
@@ -337,7 +345,7 @@ class Installed(PackTest):
 
     def setUp(self):
         super().setUp()
-        self.prefix = self.folder / "usr"
+        self.prefix = self.folder / "it's a \"prefix\""  # a path may have all that a shell takes apart
         self.library = self.prefix / "lib" / SONAME
         self.by_pkg_config = {"PKG_CONFIG_PATH": str(self.prefix / "lib" / "pkgconfig")}
         self.passes(["make", "install", f"PREFIX={self.prefix}"])
@@ -347,7 +355,8 @@ class Installed(PackTest):
         self.need("pkg-config")
         package = "quic-recovery" if kind == "shared" else "quic-recovery-static"
         program = self.folder / f"{source.replace('.', '_')}_{kind}"
-        self.passes(["sh", "-c", f'{compiler} -O2 "rust/c/{source}" $(pkg-config --cflags --libs {package}) -o "$0"', program], **self.by_pkg_config)
+        command = f"""eval {compiler} -O2 rust/c/{source} "$(pkg-config --cflags --libs {package})" -o '"$0"'"""  # pkg-config quotes for a shell
+        self.passes(["sh", "-c", command, program], **self.by_pkg_config)
         return program
 
     def runs(self, program, source, kind):

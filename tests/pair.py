@@ -16,7 +16,6 @@ import pathlib
 import random
 import re
 import subprocess
-import tempfile
 import unittest
 
 import tree

@@ -12,7 +12,6 @@ under out/prove, with links to the builds of its dependencies. Only one ./prove 
 import argparse
 import heapq
 import os
-import pathlib
 import re
 import shutil
 import signal
@@ -28,10 +27,6 @@ from tree import ROOT
 
 TREES = ROOT / "out" / "prove"
 PROGRAM = "recovery_program"
-LAUNCHERS = {
-    PROGRAM: "recovery-replay", "recovery_trace": "recovery-trace", "recovery_sender_program": "recovery-sender",
-    "recovery_pictures": "recovery-pictures", "recovery_link": "recovery-link",
-}
 MOST_EACH = 4  # processors for one crate
 MEMORY_EACH = 2_500_000  # kB, of one crate's proof
 
@@ -75,7 +70,7 @@ def sources_of(name):
 
 def built_of(name):
     """What a crate can be built as, below its folder `out`."""
-    return tree.mark_of_rlib(name), name, f"lib{name}.a"
+    return tree.rlib_format(name), name, f"lib{name}.a"
 
 
 def is_kept(name):
@@ -270,7 +265,7 @@ def prove_alone(target, jobs):
         shutil.rmtree(TREES, ignore_errors=True)
     if failed:
         sys.exit(f"\n{failed[1]}prove: {failed[0]} is not proved")
-    how = f": ./{LAUNCHERS[target]} runs it" if target in LAUNCHERS else ""
+    how = f": ./{tree.LAUNCHERS[target]} runs it" if target in tree.LAUNCHERS else ""
     say(f"{target} is proved and built{how}")
 
 

@@ -92,7 +92,7 @@ def rlib(name):
     return ROOT / "crates" / name / "out" / "rlib" / f"{name}.rlib"
 
 
-def mark_of_rlib(name):
+def rlib_format(name):
     """The file in a built library, below the crate's folder `out`, that holds the checksum of its other files."""
     return f"rlib/{name}.rlib/format"
 
@@ -109,7 +109,7 @@ def record(name, sum, *files):
 
 def is_built(name, file=None):
     """Whether a file in a crate's folder `out`, or its library, was built in this tree from exactly the sources that are here now."""
-    return subprocess.run(words_in_launch("is_up_to_date", name, file or mark_of_rlib(name)), stdin=subprocess.DEVNULL).returncode == 0
+    return subprocess.run(words_in_launch("is_up_to_date", name, file or rlib_format(name)), stdin=subprocess.DEVNULL).returncode == 0
 
 
 def reject_committed_builds():
