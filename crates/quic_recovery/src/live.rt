@@ -1,11 +1,11 @@
 //! The recovery of a running connection: events are applied one at a time, each after a past of events and replies.
-ghost use Rattle.std.specs.Prelude.{◌≡◌, ◌<◌, ◌≤◌, IfOk, OnErr, []};
-ghost use Rattle.recovery_base.specs.Units.{number_limit};
+ghost use Rattle.std.specs.Prelude.{◌≡◌, ◌+◌, ◌<◌, ◌≤◌, false, Ok, IfOk, OnErr, []};
+ghost use Rattle.recovery_base.specs.Units.{number_limit, u64_limit};
 ghost use Rattle.recovery_packet_numbers.specs.Skips.{IsSkips};
 ghost use Rattle.recovery_paths.specs.PathLog.{paths_marks};
 ghost use Rattle.recovery_history.specs.CallerState.{AreMarksFresh, HasNoLossTime, marks_at, with_marks_at, with_loss_time_at};
 ghost use Rattle.recovery_history.specs.Reachability.{ReachedBy};
-ghost use Rattle.recovery_events.specs.declared.event.Event.TheVariants.{Acked, EndAcks, Sample, Send, Transmit};
+ghost use Rattle.recovery_events.specs.declared.event.Event.TheVariants.{Acked, EndAcks, NewPath, Sample, Send, Transmit};
 ghost use Rattle.quic_recovery.specs.Live.{AppliesEvent, LiveStep, IsReachable, PreservesPasts, LiveStepFromSome};
 ghost use Rattle.quic_recovery.specs.State.{state_of, begun, Transition};
 ghost use Rattle.recovery_history.specs.Transitions.{inputs_of};
@@ -22,6 +22,7 @@ use recovery_paths::path_pair::PathName;
 use recovery_paths::paths::PathMarks;
 use recovery_queue::queue::RetransmitQueue;
 use std::alloc::Global;
+use std::net::SocketAddr;
 
 /// A [`Recovery`] with a proof of its past: some beginning and some list of events with their replies led to its state,
 /// and each reply follows from the events before it.
@@ -180,6 +181,18 @@ where
             self.new.recovery }
     {
         self.recovery.transmit(now, bytes, checked)
+    }
+
+    /// Applies [`Event::NewPath`] for a path that is not fresh, with a copy of the controller of the path in use
+    /// (`Controller::try_clone`). Unlike [`LiveRecovery::apply`] it does not allocate and cannot fail.
+    pub fn continue_path(&mut self, now: Instant, remote: SocketAddr, second: F::Controller)
+        requires room { (state_of self.old.recovery).paths.made + 1 < u64_limit }
+        requires copy { F.Controller.content second
+            ≡ (state_of self.old.recovery).paths.current.state.controller }
+        ensures { AppliesEvent self.old.recovery (NewPath now remote false) (Ok Answer.Done)
+            self.new.recovery }
+    {
+        self.recovery.continue_path(now, remote, second);
     }
 
     /// Stores the caller's marks of a path, as [`Recovery::set_marks`]. This is no event.

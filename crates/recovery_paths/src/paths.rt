@@ -171,22 +171,21 @@ impl<C: Controller + Drop> PathData<C> {
     /// Returns a path to another address that inherits RTT, controller and MTU search from another path. It is for a
     /// peer of which only the port changed, most likely because of a NAT, so that the network path is the same (RFC
     /// 9000, 9.4). The address must be validated again (RFC 9000, 9.3). All else is as on a new path; its pacer is
-    /// full, for the RTT, window and MTU of the other path. `NoMemory` if the second controller cannot be allocated.
+    /// full, for the RTT, window and MTU of the other path. `congestion` is a copy of the other path's controller.
     pub fn from_previous(
         remote: SocketAddr,
         previous: &Self,
+        congestion: C,
         generation: u64,
         now: Instant,
-    ) -> Result<Self, NoMemory>
-        ensures ledger { IfOk result (λ path. path.ledger ≡ fresh_ledger generation) }
-        ensures state { IfOk result (λ path.
-            path.state ≡ state_going_on C.words remote now previous.now.state) }
-        ensures marks { IfOk result (λ path.
-            path.marks ≡ marks_made previous.now.marks.first_after_sample) }
+    ) -> Self
+        requires copy { C.content congestion ≡ previous.now.state.controller }
+        ensures ledger { result.ledger ≡ fresh_ledger generation }
+        ensures state { result.state ≡ state_going_on C.words remote now previous.now.state }
+        ensures marks { result.marks ≡ marks_made previous.now.marks.first_after_sample }
     {
-        let congestion = previous.congestion.try_clone()?;
         let mtu = previous.current_mtu();
-        Ok(PathData {
+        PathData {
             remote,
             rtt: previous.rtt,
             pacing: Pacer::new(previous.rtt.get(), congestion.window(), mtu, now),
@@ -202,7 +201,7 @@ impl<C: Controller + Drop> PathData<C> {
             first_packet_after_rtt_sample: previous.first_packet_after_rtt_sample,
             generation,
             in_flight: InFlight::default(),
-        })
+        }
     }
 
     /// Resets RTT, controller, MTU search and pacer to the settings, within the peer's limit; the pacer is made for the

@@ -4,7 +4,7 @@ use crate::driver::Recovery;
 use rand_core::Rng;
 use recovery_base::below::NoMemory;
 use recovery_base::time::{Duration, Instant};
-use recovery_congestion::congestion::ControllerFactory;
+use recovery_congestion::congestion::{Controller, ControllerFactory};
 use recovery_events::event::{Answer, Refusal};
 use recovery_paths::path_pair::{DatagramError, PathName};
 use recovery_paths::paths::PathData;
@@ -18,7 +18,9 @@ where
     R: Rng + Drop,
 {
     ghost use Rattle.recovery_events.specs.declared.event.Event.TheVariants.{InFlight, Sample, DatagramIn, Validated, Transmit, PacerCheck, Congestion, EndAcks, NewPath, ResetPath, DropPrevious, RevertPath};
-    ghost use Rattle.quic_recovery.specs.State.{Transition, ReadOnlyTransition};
+    ghost use Rattle.std.specs.Prelude.{◌≡◌, ◌+◌, ◌<◌, false, Ok};
+    ghost use Rattle.recovery_base.specs.Units.{u64_limit};
+    ghost use Rattle.quic_recovery.specs.State.{state_of, Transition, ReadOnlyTransition};
 
     /// How much is in flight on a path (RFC 9002, B.2)?
     #[inline(always)]
@@ -91,13 +93,29 @@ where
                 &self.transport,
             )
         } else {
-            match PathData::from_previous(remote, &self.paths.current, generation, now) {
-                Ok(path) => path,
+            let current = &self.paths.current;
+            match current.congestion.try_clone() {
+                Ok(second) => PathData::from_previous(remote, current, second, generation, now),
                 Err(NoMemory) => return Err(Refusal::NoMemory),
             }
         };
         self.paths.move_to(path);
         Ok(Answer::Done)
+    }
+
+    /// A path is used from now on that continues from the current one, with this copy of its controller.
+    pub(crate) fn continue_path(&mut self, now: Instant, remote: SocketAddr, second: F::Controller)
+        requires room { (state_of self.old).paths.made + 1 < u64_limit }
+        requires copy { F.Controller.content second
+            ≡ (state_of self.old).paths.current.state.controller }
+        ensures { Transition (NewPath now remote false) self.old (Ok Answer.Done) self.new }
+    {
+        let Some(generation) = self.paths.next_generation() else {
+            unreachable!()
+        };
+        let current = &self.paths.current;
+        let path = PathData::from_previous(remote, current, second, generation, now);
+        self.paths.move_to(path);
     }
 
     /// The path in use starts from its initial values (RFC 9000, 9.4).

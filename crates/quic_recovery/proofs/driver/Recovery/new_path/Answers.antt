@@ -32,7 +32,7 @@ invariant_of-self g c =
     let now = c.args.self.now in
     let ledger : c.if-fresh.path.ledger ≡ fresh_ledger c.in-Some.generation = elim c.if-fresh.branch [
       | then-fresh w ↦ ap (λ (p : Path _). p.ledger) w.path-is ∙ w.new-path.ensures.ledger
-      | else-fresh+in-Ok w ↦ ap (λ (p : Path _). p.ledger) w.path-is ∙ w.in-Ok.ensures.ledger
+      | else-fresh+in-Ok w ↦ ap (λ (p : Path _). p.ledger) w.path-is ∙ w.from_previous.ensures.ledger
     ] in
     let next : c.in-Some.generation ≡ now.paths.made + 1 = search (rules, c.in-Some.ensures) in
     record {
