@@ -1,5 +1,11 @@
--- The ranges of an ACK frame, the highest first, in the order of the frame (RFC 9000, 19.3.1).
-use Rattle.std.specs.Prelude.{ℕ, ◌+◌, ◌≤◌, ◌⊎◌, ◌&&◌, nat_le, Bool, true, false, List, [], ◌∷◌, Option, None, Some}
+-- When an ACK frame was received, and its ranges, the highest first, in the order of the frame (RFC 9000, 19.3.1).
+use Rattle.std.specs.Prelude.{ℕ, ◌+◌, ◌≤◌, ◌⊎◌, ◌&&◌, min, nat_le, Bool, true, false, List, [], ◌∷◌, Option, None, Some}
+use Rattle.std.specs.Option.{option_map_or}
+use Rattle.recovery_losses.specs.declared.frames.Ack.{Ack}
+
+-- when a frame was received that is processed at `now`: a later time counts as `now`, and so does none (RFC 9002, 5.3)
+abbrev pub received_at : Ack → ℕ → ℕ
+received_at ack now = option_map_or (λ received. min received now) ack.received now
 
 -- a range ends below the one above it, if any, with a number between them
 abbrev pub is_apart : ℕ → Option ℕ → Bool

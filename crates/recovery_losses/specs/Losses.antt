@@ -43,9 +43,20 @@ is_after_sample (Elsewhere sampled) number sent = nat_lt sampled sent
 abbrev pub lost_at : LossPass → ℕ → ℕ
 lost_at look sent = min (sent + look.delay) last_time
 
--- far enough below the largest acknowledged number, or sent long enough ago (RFC 9002, 6.1.1 and 6.1.2)
+-- a number was skipped between two others, so that no packet has it (RFC 9000, 21.4)
+abbrev pub is_skipped_between : Option ℕ → ℕ → ℕ → Bool
+is_skipped_between None low high = false
+is_skipped_between (Some skipped) low high = nat_lt low skipped && nat_lt skipped high
+
+-- how many packets were sent after this number, up to the largest acknowledged one
+abbrev pub packets_after : LossPass → ℕ → ℕ
+packets_after look number =
+    look.largest - number - (if is_skipped_between look.skipped number look.largest then 1 else 0)
+
+-- enough packets were sent after it, up to the largest acknowledged one, or it was sent long enough ago (RFC 9002,
+-- 6.1.1 and 6.1.2)
 abbrev pub IsLost : LossPass → ℕ → ℕ → Type 0
-IsLost look number sent = (number + look.packet_threshold ≤ look.largest) ⊎ (lost_at look sent ≤ look.at)
+IsLost look number sent = (look.packet_threshold ≤ packets_after look number) ⊎ (lost_at look sent ≤ look.at)
 
 -- when a packet is due: once it is lost by its age, or now, if it is lost and allocation failed
 abbrev pub IsDueAt : LossPass → ℕ → ℕ → ℕ → Type 0

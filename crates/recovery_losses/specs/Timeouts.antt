@@ -1,5 +1,5 @@
 -- How long to wait before a packet is lost and before a probe is sent (RFC 9002, 6.1.2 and 6.2.1).
-use Rattle.std.specs.Prelude.{ℕ, ◌+◌, ◌-◌, ◌*◌, ◌/◌, ◌^◌, ◌==◌, min, max, if◌then◌else◌}
+use Rattle.std.specs.Prelude.{ℕ, ◌+◌, ◌-◌, ◌*◌, ◌/◌, ◌^◌, ◌==◌, min, max, Bool, true, false, Option, None, Some, if◌then◌else◌}
 use Rattle.recovery_base.specs.Times.{longest_span}
 use Rattle.recovery_base.specs.Units.{timer_granularity}
 
@@ -24,3 +24,11 @@ loss_delay_of threshold smoothed latest = let rtt = max smoothed latest in
 -- twice as long for each consecutive probe timeout
 abbrev pub probe_timeout_of : ℕ → ℕ → ℕ → ℕ
 probe_timeout_of base max_ack_delay count = up_to_longest ((base + max_ack_delay) * 2 ^ count)
+
+-- From when a probe timeout of a space is measured, if it has one: when the last ack-eliciting packet was sent, if such
+-- a packet is tracked (RFC 9002, 6.2.1). Otherwise, if a packet waits for room in the window, the later of both times.
+abbrev pub probe_start_of : (is_tracked : Bool) (waiting sent : Option ℕ) → Option ℕ
+probe_start_of true waiting sent = sent
+probe_start_of false None sent = None
+probe_start_of false (Some since) None = Some since
+probe_start_of false (Some since) (Some sent) = Some (max since sent)

@@ -1,8 +1,8 @@
 -- The variables that a sender has next to its recovery, and how they change (RFC 9002, A.3).
-use Rattle.std.specs.Prelude.{ℕ, ◌+◌, ◌||◌, min, max, Bool, true, false, Option, None, Some, if◌then◌else◌, ◌-◌, nat_le}
-use Rattle.std.specs.Option.{option_and_then, option_map_or}
+use Rattle.std.specs.Prelude.{ℕ, ◌+◌, ◌||◌, min, max, Bool, true, false, Option, None, Some, option_map, if◌then◌else◌, ◌-◌, nat_le}
+use Rattle.std.specs.Option.{option_and_then, option_map_or, option_or}
 use Rattle.recovery_base.specs.declared.below.SpaceId.{SpaceId}
-use Rattle.recovery_base.specs.declared.below.SpaceId.TheVariants.{Handshake, Data}
+use Rattle.recovery_base.specs.declared.below.SpaceId.TheVariants.{Initial, Handshake, Data}
 use Rattle.recovery_base.specs.Spaces.{same_space}
 use Rattle.recovery_base.specs.Units.{assumed_ack_delay, largest_u32}
 use Rattle.recovery_losses.specs.Timeouts.{probe_timeout_of}
@@ -10,6 +10,7 @@ use Rattle.recovery_losses.specs.declared.variables.Side.{Side}
 use Rattle.recovery_losses.specs.declared.variables.Side.TheVariants.{Client, Server}
 use Rattle.recovery_losses.specs.declared.thresholds.Thresholds.{Thresholds}
 use Rattle.recovery_losses.specs.declared.variables.DueProbes.{DueProbes}
+use Rattle.recovery_losses.specs.declared.variables.FullSince.{FullSince}
 use Rattle.recovery_losses.specs.declared.variables.Variables.{Variables}
 
 -- nothing is known of the connection, and no probe timeout expired; the peer's max_ack_delay is 25 ms until it is
@@ -27,6 +28,7 @@ fresh side thresholds now = record {
   sampled = now;
   due_probes = None;
   initial_rtt = None;
+  full_since = record { initial = None; handshake = None };
 }
 
 -- The thresholds of the settings; 0 counts as 1. With a packet threshold of 0 a packet would be lost with its own ACK,
@@ -100,20 +102,58 @@ probed (Some space) variables =
 abbrev pub is_probe_due : Variables → SpaceId → Bool
 is_probe_due variables space = option_map_or (λ due. same_space due.space space) variables.due_probes false
 
--- a space was discarded, or all its packets were declared lost: the count of probe timeouts is reset, and no probe is
--- due there (RFC 9002, 6.2.2 and A.11)
+-- ---- since when packets of the handshake spaces wait for room in the window (RFC 9002, 7 and 7.5)
+
+-- 1-RTT packets never do: they have no probe timeout before the handshake is confirmed (RFC 9002, 6.2.1)
+abbrev pub since_in : SpaceId → FullSince → Option ℕ
+since_in Initial full = full.initial
+since_in Handshake full = full.handshake
+since_in Data full = None
+
+-- with another time for a space
+abbrev pub with_since : SpaceId → Option ℕ → FullSince → FullSince
+with_since Initial time full = record full { initial = time }
+with_since Handshake time full = record full { handshake = time }
+with_since Data time full = full
+
+-- a packet found no room: it waits since the first time
+abbrev pub found_full : SpaceId → ℕ → Variables → Variables
+found_full space now variables = record variables {
+  full_since = with_since space (option_or (since_in space variables.full_since) (Some now)) variables.full_since;
+}
+
+-- a packet found room: none waits
+abbrev pub found_room : SpaceId → Variables → Variables
+found_room space variables = record variables { full_since = with_since space None variables.full_since }
+
+-- each space that waits does so from now on
+abbrev pub restarted : ℕ → FullSince → FullSince
+restarted now full = record {
+  initial = option_map (λ since. now) full.initial;
+  handshake = option_map (λ since. now) full.handshake;
+}
+
+-- until the handshake is confirmed
+abbrev pub waiting_since : Variables → SpaceId → Option ℕ
+waiting_since variables space =
+    if variables.is_handshake_confirmed then None else since_in space variables.full_since
+
+-- a space was discarded, or all its packets were declared lost: the count of probe timeouts is reset, no probe is due
+-- there, and no packet waits for room (RFC 9002, 6.2.2 and A.11)
 abbrev pub begun_anew : SpaceId → ℕ → Variables → Variables
 begun_anew space now variables = record variables {
   pto_count = 0;
   base = now;
   due_probes = option_and_then (due_after_end space) variables.due_probes;
+  full_since = with_since space None variables.full_since;
 }
 
 -- a probe timeout expired: `count` probes are due in a space and replace those that were due (RFC 9002, 6.2.1 and
--- 6.2.4)
+-- 6.2.4); a space that waits for room does so from now on
 abbrev pub timed_out : SpaceId → ℕ → ℕ → Variables → Variables
 timed_out space count now variables = record variables {
   pto_count = min (variables.pto_count + 1) largest_u32;
   base = now;
   due_probes = Some (record { space = space; count = count });
+  full_since = restarted now variables.full_since;
 }

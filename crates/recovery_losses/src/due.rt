@@ -12,7 +12,7 @@ pub enum Due {
     Losses(SpaceId),
     /// A probe timeout of a space expires.
     Probes(SpaceId),
-    /// A client or server is to end a possible deadlock (RFC 9002, 6.2.2.1).
+    /// A client that does not know its address validated is to send (RFC 9002, 6.2.2.1).
     AntiDeadlock(SpaceId),
 }
 

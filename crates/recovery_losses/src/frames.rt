@@ -1,9 +1,9 @@
 //! Received ACK frames (RFC 9000, 19.3).
 ghost use Rattle.std.specs.Prelude.{◌≡◌};
-ghost use Rattle.recovery_losses.specs.Frames.{are_ranges, is_apart, is_unsent, largest_of};
+ghost use Rattle.recovery_losses.specs.Frames.{are_ranges, is_apart, is_unsent, largest_of, received_at};
 
 use recovery_base::below::EcnCounts;
-use recovery_base::time::Duration;
+use recovery_base::time::{Duration, Instant};
 
 /// The fields of an ACK frame, except its ranges, and what the caller knows at its arrival.
 #[derive(Clone, Copy)]
@@ -14,6 +14,22 @@ pub struct Ack {
     pub ecn: Option<EcnCounts>,
     /// Whether the sender had too little to send to fill its window (RFC 9002, 7.8).
     pub app_limited: bool,
+    /// When the frame was received, if earlier than it is processed (RFC 9002, 5.3). A later time counts as the time
+    /// at which it is processed.
+    pub received: Option<Instant>,
+}
+
+impl Ack {
+    /// Returns when the frame was received, if it is processed at `now`.
+    #[inline(always)]
+    pub fn received_at(&self, now: Instant) -> Instant
+        ensures { result ≡ received_at self.now now }
+    {
+        match self.received {
+            Some(received) => received.min(now),
+            None => now,
+        }
+    }
 }
 
 /// Returns whether there is a range, none ends before it begins, and two neighbours have at least one number between

@@ -18,5 +18,5 @@ pub use frames::{Ack, are_ranges, is_unsent, largest_of};
 pub use looks::{Candidate, FirstSample, LossPass};
 pub use tally::{Run, Tally};
 pub use thresholds::Thresholds;
-pub use timeouts::{loss_delay, probe_timeout};
-pub use variables::{DueProbes, Side, Variables};
+pub use timeouts::{loss_delay, probe_start, probe_timeout};
+pub use variables::{DueProbes, FullSince, Side, Variables};

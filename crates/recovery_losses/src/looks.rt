@@ -1,6 +1,6 @@
 //! The inputs of a loss detection pass, and when a packet is lost (RFC 9002, 6.1).
 ghost use Rattle.std.specs.Prelude.{◌≡◌, ◌<◌, Decides};
-ghost use Rattle.recovery_losses.specs.Losses.{first_sample_in, lost_at, is_after_sample, is_end, IsLost};
+ghost use Rattle.recovery_losses.specs.Losses.{first_sample_in, lost_at, is_after_sample, is_end, packets_after, IsLost};
 
 use recovery_base::below::SpaceId;
 use recovery_base::time::{Duration, Instant};
@@ -21,11 +21,12 @@ pub enum FirstSample {
 pub struct LossPass {
     /// The space whose packets are examined.
     pub space: SpaceId,
-    /// The time of the pass.
+    /// The time by which the age of packets is judged: when the ACK frame was received, or the time of the call.
     pub at: Instant,
     /// The largest number that was acknowledged in the space.
     pub largest: u64,
-    /// How many numbers below the largest acknowledged one a packet is lost (RFC 9002, 6.1.1: kPacketThreshold).
+    /// A packet is lost if so many packets were sent after it, up to the largest acknowledged one (RFC 9002, 6.1.1:
+    /// kPacketThreshold).
     pub packet_threshold: u64,
     /// How long after its transmission a packet is lost (RFC 9002, 6.1.2).
     pub delay: Duration,
@@ -35,7 +36,8 @@ pub struct LossPass {
     pub generation: u64,
     /// Which packets may begin or end persistent congestion (RFC 9002, 7.6.2).
     pub first_sample: FirstSample,
-    /// The number that was skipped last in the space. No packet has it, so it does not end a run (RFC 9000, 21.4).
+    /// The number that was skipped last in the space. No packet has it: it does not end a run, and the packet threshold
+    /// leaves it out (RFC 9000, 21.4).
     pub skipped: Option<u64>,
     /// The duration of persistent congestion, in nanoseconds (RFC 9002, 7.6.1).
     pub period: u128,
@@ -64,12 +66,26 @@ impl LossPass {
         packet.time_sent + self.delay
     }
 
+    /// Returns how many packets were sent after the one with a number, up to the largest acknowledged one. The number
+    /// that was skipped last is left out.
+    fn packets_after(&self, number: u64) -> u64
+        requires below { number < self.now.largest }
+        ensures { result ≡ packets_after self.now number }
+    {
+        let numbers = self.largest - number;
+        match self.skipped {
+            Some(skipped) if number < skipped && skipped < self.largest => numbers - 1,
+            _ => numbers,
+        }
+    }
+
     /// Returns whether a packet is lost: by its number or by its age (RFC 9002, 6.1).
     pub fn is_lost(&self, packet: &Candidate) -> bool
         requires below { packet.now.number < self.now.largest }
         ensures { Decides result (IsLost self.now packet.now.number packet.now.time_sent) }
     {
-        self.largest - packet.number >= self.packet_threshold || self.lost_at(packet) <= self.at
+        self.packets_after(packet.number) >= self.packet_threshold
+            || self.lost_at(packet) <= self.at
     }
 
     /// Returns whether persistent congestion may begin or end with a packet that counts (RFC 9002, 7.6.2).

@@ -1,8 +1,8 @@
 //! How long to wait before a packet is lost and before a probe is sent (RFC 9002, 6.1.2 and 6.2.1).
 ghost use Rattle.std.specs.Prelude.{◌≡◌};
-ghost use Rattle.recovery_losses.specs.Timeouts.{scaled_by, loss_delay_of, probe_timeout_of, up_to_longest};
+ghost use Rattle.recovery_losses.specs.Timeouts.{scaled_by, loss_delay_of, probe_start_of, probe_timeout_of, up_to_longest};
 
-use recovery_base::time::Duration;
+use recovery_base::time::{Duration, Instant};
 
 /// The timer granularity: a millisecond (RFC 9002, 6.1.2: kGranularity), in nanoseconds.
 const GRANULARITY: u128 = 1_000_000;
@@ -41,6 +41,25 @@ pub fn probe_timeout(base: Duration, max_ack_delay: Duration, count: u32) -> Dur
         return up_to_longest(once);
     }
     up_to_longest(once.saturating_mul(2u128.saturating_pow(count)))
+}
+
+/// Returns from when a probe timeout of a space is measured, if it has one (RFC 9002, 6.2.1). That is `sent`, when the
+/// last ack-eliciting packet was sent, if such a packet is tracked. If none is, but a packet waits for room in the
+/// window since `waiting`, it is the later of the two times.
+#[inline(always)]
+pub fn probe_start(
+    is_tracked: bool,
+    waiting: Option<Instant>,
+    sent: Option<Instant>,
+) -> Option<Instant>
+    ensures { result ≡ probe_start_of is_tracked waiting sent }
+{
+    if is_tracked {
+        return sent;
+    }
+    let since = waiting?;
+    let last = sent.unwrap_or(since);
+    Some(if since < last { last } else { since })
 }
 
 /// Returns a duration of `nanos` nanoseconds, at most `Duration::MAX`.

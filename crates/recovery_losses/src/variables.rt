@@ -1,6 +1,6 @@
 //! The variables that a sender has next to its tracked packets, and their consequences (RFC 9002, A.3).
 ghost use Rattle.std.specs.Prelude.{◌≡◌, min, None, if◌then◌else◌};
-ghost use Rattle.recovery_losses.specs.Variables.{ack_delay_in, based, begun_anew, due_after_end, due_after_packet, fresh, heard_in, is_address_validated, is_probe_due, probed, pto_by, sampled_first, timed_out};
+ghost use Rattle.recovery_losses.specs.Variables.{ack_delay_in, based, begun_anew, due_after_end, due_after_packet, found_full, found_room, fresh, heard_in, is_address_validated, is_probe_due, probed, pto_by, restarted, sampled_first, since_in, timed_out, waiting_since, with_since};
 
 use crate::thresholds::Thresholds;
 use crate::timeouts::probe_timeout;
@@ -61,6 +61,57 @@ impl DueProbes {
     }
 }
 
+/// Since when packets of the Initial and the Handshake space wait for room in the window. 1-RTT packets may fill it,
+/// which the peer cannot read before the handshake completes. So the space that waits has a probe timeout: probes are
+/// not limited by the window (RFC 9002, 6.2.4 and 7.5).
+#[derive(Clone, Copy)]
+pub struct FullSince {
+    /// The Initial space, if it waits.
+    pub initial: Option<Instant>,
+    /// The Handshake space, if it waits.
+    pub handshake: Option<Instant>,
+}
+
+impl FullSince {
+    /// Returns since when packets of a space wait, if they do: never those of the space of 1-RTT packets.
+    fn of(&self, space: SpaceId) -> Option<Instant>
+        ensures { result ≡ since_in space self.now }
+    {
+        match space {
+            SpaceId::Initial => self.initial,
+            SpaceId::Handshake => self.handshake,
+            SpaceId::Data => None,
+        }
+    }
+
+    /// Returns the times with another one for a space.
+    fn with(self, space: SpaceId, time: Option<Instant>) -> Self
+        ensures { result ≡ with_since space time self }
+    {
+        match space {
+            SpaceId::Initial => FullSince {
+                initial: time,
+                ..self
+            },
+            SpaceId::Handshake => FullSince {
+                handshake: time,
+                ..self
+            },
+            SpaceId::Data => self,
+        }
+    }
+
+    /// Returns the times after a probe timeout: a space that waits does so from now on.
+    fn restarted(self, now: Instant) -> Self
+        ensures { result ≡ restarted now self }
+    {
+        FullSince {
+            initial: self.initial.map(|_since| now),
+            handshake: self.handshake.map(|_since| now),
+        }
+    }
+}
+
 /// The variables that a sender has next to its recovery (RFC 9002, A.3).
 #[derive(Clone, Copy)]
 pub struct Variables {
@@ -87,6 +138,8 @@ pub struct Variables {
     /// The RTT that timers use before the first sample of the path in use, instead of the one in the settings (RFC
     /// 9002, 6.2.2).
     pub initial_rtt: Option<Duration>,
+    /// Since when packets of the handshake spaces wait for room in the window.
+    pub full_since: FullSince,
 }
 
 impl Variables {
@@ -106,6 +159,10 @@ impl Variables {
             sampled: now,
             due_probes: None,
             initial_rtt: None,
+            full_since: FullSince {
+                initial: None,
+                handshake: None,
+            },
         }
     }
 
@@ -183,8 +240,35 @@ impl Variables {
         }
     }
 
+    /// Returns since when a packet of a handshake space waits for room in the window, if one does and the handshake is
+    /// not confirmed.
+    pub fn waiting_since(&self, space: SpaceId) -> Option<Instant>
+        ensures { result ≡ waiting_since self.now space }
+    {
+        if self.is_handshake_confirmed {
+            None
+        } else {
+            self.full_since.of(space)
+        }
+    }
+
+    /// Records that a packet of a space found no room in the window. It waits since the first time.
+    pub fn find_full(&mut self, space: SpaceId, now: Instant)
+        ensures { self.new ≡ found_full space now self.old }
+    {
+        let since = self.full_since.of(space).unwrap_or(now);
+        self.full_since = self.full_since.with(space, Some(since));
+    }
+
+    /// Records that a packet of a space found room in the window: none waits for it.
+    pub fn find_room(&mut self, space: SpaceId)
+        ensures { self.new ≡ found_room space self.old }
+    {
+        self.full_since = self.full_since.with(space, None);
+    }
+
     /// Records that a space was discarded, or that all its packets were declared lost. Resets the count of probe
-    /// timeouts, and no probe is due there (RFC 9002, 6.2.2 and A.11).
+    /// timeouts; no probe is due there, and no packet waits for room (RFC 9002, 6.2.2 and A.11).
     pub fn begun_anew(self, space: SpaceId, now: Instant) -> Self
         ensures { result ≡ begun_anew space now self }
     {
@@ -196,12 +280,13 @@ impl Variables {
             pto_count: 0,
             base: now,
             due_probes,
+            full_since: self.full_since.with(space, None),
             ..self
         }
     }
 
     /// Records a probe timeout: `count` probes are due in a space and replace those that were due (RFC 9002, 6.2.1 and
-    /// 6.2.4).
+    /// 6.2.4). Each space that waits for room does so from now on.
     pub fn timed_out(self, space: SpaceId, count: u8, now: Instant) -> Self
         ensures { result ≡ timed_out space count now self }
     {
@@ -209,6 +294,7 @@ impl Variables {
             pto_count: self.pto_count.saturating_add(1),
             base: now,
             due_probes: Some(DueProbes { space, count }),
+            full_since: self.full_since.restarted(now),
             ..self
         }
     }

@@ -1,15 +1,21 @@
 -- The calls other than ACK frames and losses: their replies, and that their events succeed.
-use Rattle.std.proofs.Common.{◌≡◌, ℕ, ◌∷◌, [], ◌+◌, ◌<◌, ◌≤◌, ◌^◌, true, false, Bool, Option, None, Some, Ok, Err, Result, arith, refl, sym, ap, ◌∙◌}
-use Rattle.std.specs.Prelude.{if◌then◌else◌, nat_lt}
+use Rattle.std.proofs.Common.{◌≡◌, ℕ, ◌∷◌, [], ◌+◌, ◌<◌, ◌≤◌, ◌^◌, true, false, Bool, Option, None, Some, Ok, Err, Result, true≢false, ltb-true, arith, refl, sym, ap, subst, ◌∙◌}
+use Rattle.std.specs.Prelude.{◌&&◌, not, Decides, if◌then◌else◌, nat_lt}
+use Rattle.std.proofs.lemmas.Option.{same_Some}
+use Rattle.recovery_acks.specs.Acks.{CanSend}
 use Rattle.recovery_base.specs.declared.below.SpaceId.{SpaceId}
+use Rattle.recovery_base.specs.declared.below.SpaceId.TheVariants.{Initial, Handshake, Data}
+use Rattle.recovery_base.specs.Spaces.{same_space}
+use Rattle.recovery_base.specs.Units.{u64_limit}
 use Rattle.recovery_congestion.specs.Controllers.{ControllerSemantics}
 use Rattle.recovery_events.specs.declared.event.Answer.{Answer}
 use Rattle.recovery_events.specs.declared.event.Answer.TheVariants as answers
 use Rattle.recovery_events.specs.declared.event.Event.TheVariants.{QueueProbe, TakePending}
 use Rattle.recovery_events.specs.declared.event.Refusal.{Refusal}
-use Rattle.recovery_events.specs.declared.event.Refusal.TheVariants.{NoMemory, SpaceDiscarded}
+use Rattle.recovery_events.specs.declared.event.Refusal.TheVariants.{NoMemory, Overflow, SpaceDiscarded}
 use Rattle.recovery_spaces.specs.Acks.{AckState}
 use Rattle.recovery_spaces.specs.Discarded.{is_discarded}
+use Rattle.recovery_spaces.specs.Spaces.{Space}
 use Rattle.recovery_losses.specs.declared.variables.Variables.{Variables}
 use Rattle.recovery_losses.specs.Variables.{is_probe_due}
 use Rattle.recovery_paths.specs.PathStates.{PathState, is_blocked, path_delay}
@@ -24,10 +30,11 @@ use Rattle.recovery_sender.specs.declared.sender.SenderError.{SenderError}
 use Rattle.recovery_sender.specs.declared.sender.SenderError.TheVariants.{Event}
 use Rattle.recovery_sender.specs.declared.sender.Sender.{Sender}
 use Rattle.recovery_sender.specs.declared.sender.packets.Transmission.{Transmission}
-use Rattle.recovery_sender.specs.declared.sender.packets.Transmission.TheVariants.{Transmitted, Blocked, Full}
+use Rattle.recovery_sender.specs.declared.sender.packets.Transmission.TheVariants.{Transmitted, Blocked, Delayed, Full}
 use Rattle.recovery_sender.specs.Senders.{state_in}
+use Rattle.recovery_sender.specs.Spaces.{space_in}
 use Rattle.recovery_sender.specs.Steps.{told, TakesSteps}
-use Rattle.recovery_sender.specs.Calls.{done_of, QueuesProbe, paced_to, bytes_in_flight, is_checked, is_full, window_of, transmission, transmit_reply}
+use Rattle.recovery_sender.specs.Calls.{after_transmit, done_of, QueuesProbe, paced_to, bytes_in_flight, is_checked, is_full, window_of, transmission, transmit_reply, IsAckRequired}
 
 -- ---- a datagram
 
@@ -37,35 +44,71 @@ pub known_from : (gone : Bool) (there found : Bool) → (if gone then None else 
 known_from gone there found is = grind (arith, is)
 
 -- what is transmitted after a check of window and pacer fits
-within : (blocked full : Bool) (delay : Option ℕ) (window wanted : ℕ) → full ≡ nat_lt window wanted
-    → Transmitted ≡ (if blocked then Blocked else if true then (if full then Full else paced_to delay) else Transmitted)
+within : (blocked full ack : Bool) (delay : Option ℕ) (window wanted : ℕ) → full ≡ nat_lt window wanted
+    → Transmitted ≡ (if blocked then Blocked else if true then (if full then Full ack else paced_to ack delay)
+    else Transmitted)
     → wanted ≤ window
-within true full delay window wanted is goes = absurd cc
-within false true delay window wanted is goes = absurd cc
-within false false delay window wanted is goes = grind (arith, is)
+within true full ack delay window wanted is goes = absurd cc
+within false true ack delay window wanted is goes = absurd cc
+within false false ack delay window wanted is goes = grind (arith, is)
+
+-- no 1-RTT packet waits for room, nor one that does not count in flight
+pub none_waits : (space : SpaceId) (now : ℕ) (in_flight : Bool) (sent : Transmission) (variables : Variables)
+    → (in_flight && not (same_space space Data)) ≡ false
+    → after_transmit now space in_flight sent variables ≡ variables
+none_waits space now false sent variables alone = refl
+none_waits Data now true (Full ack) variables alone = refl
+none_waits Data now true Transmitted variables alone = refl
+none_waits Data now true (Delayed until ack) variables alone = refl
+none_waits Data now true Blocked variables alone = refl
+none_waits Initial now true sent variables alone = absurd (true≢false alone)
+none_waits Handshake now true sent variables alone = absurd (true≢false alone)
+
+-- an ACK of a space is required exactly if it can be sent
+pub ack_decided : {K P M : Type 0} (recovery : RecoveryState K P M) (space : SpaceId) (here : Space P M) (test : Bool)
+    → Some here ≡ space_in recovery space → Decides test (CanSend here.pending_acks)
+    → Decides test (IsAckRequired recovery space)
+ack_decided {P = P} {M = M} recovery space here test is decides = (
+  λ yes. (here, sym is, decides.0 yes),
+  λ required. decides.1 (subst (λ (at : Space P M). CanSend at.pending_acks)
+      (sym (same_Some here required.0 (is ∙ required.1))) required.2),
+)
 
 module _ {K P M : Type 0} (words : ControllerSemantics K) (recovery : RecoveryState K P M) (variables : Variables)
     (now bytes : ℕ) where
-  pub transmit_answered : (space : SpaceId) (in_flight checked : Bool) (sent : Transmission)
+  pub transmit_answered : (space : SpaceId) (in_flight checked ack : Bool) (sent : Transmission)
       → (if is_discarded space recovery.discarded then None else Some (is_checked variables space in_flight))
       ≡ Some checked → recovery.paths.current.state.total_sent + bytes < 2 ^ 64
-      → sent ≡ transmission words recovery now bytes checked
-      → Ok sent ≡ transmit_reply words recovery variables now bytes space in_flight
-  transmit_answered space in_flight checked sent is fits sends =
+      → sent ≡ transmission words recovery now bytes checked ack
+      → Ok sent ≡ transmit_reply words recovery variables now bytes space in_flight ack
+  transmit_answered space in_flight checked ack sent is fits sends =
       let known = known_from _ _ _ is in
       grind (arith, known.0, known.1, fits, sends)
 
-  pub window_kept : (space : SpaceId) (in_flight checked : Bool) (sent : Transmission)
+  pub overflow_answered : (space : SpaceId) (in_flight checked ack : Bool)
       → (if is_discarded space recovery.discarded then None else Some (is_checked variables space in_flight))
-      ≡ Some checked → sent ≡ transmission words recovery now bytes checked
+      ≡ Some checked → (test : Bool) → test ≡ false
+      → Decides test (recovery.paths.current.state.total_sent + bytes < u64_limit)
+      → Err (Event Overflow) ≡ transmit_reply words recovery variables now bytes space in_flight ack
+  overflow_answered space in_flight checked ack is test never decides =
+      by (nat_lt (recovery.paths.current.state.total_sent + bytes) u64_limit) refl
+    where
+      by : (fits : Bool) → nat_lt (recovery.paths.current.state.total_sent + bytes) u64_limit ≡ fits
+          → Err (Event Overflow) ≡ transmit_reply words recovery variables now bytes space in_flight ack
+      by true fits = absurd (true≢false (sym (decides.1 (ltb-true _ _ fits)) ∙ never))
+      by false over = rw ((known_from _ _ _ is).0, over) refl
+
+  pub window_kept : (space : SpaceId) (in_flight checked ack : Bool) (sent : Transmission)
+      → (if is_discarded space recovery.discarded then None else Some (is_checked variables space in_flight))
+      ≡ Some checked → sent ≡ transmission words recovery now bytes checked ack
       → ◌≡◌ {A = Result Transmission SenderError} (Ok sent) (Ok Transmitted) → in_flight ≡ true
       → is_probe_due variables space ≡ false
       → bytes_in_flight recovery + bytes ≤ window_of words recovery
-  window_kept space in_flight checked sent is sends goes counts none =
+  window_kept space in_flight checked ack sent is sends goes counts none =
       let known = known_from _ _ _ is in
       let is_sent : sent ≡ Transmitted = cc in
       let is_asked : checked ≡ true = sym known.1 ∙ (grind (arith, counts, none)) in
-      within (is_blocked recovery.paths.current.state bytes) (is_full words recovery bytes) _ _ _ refl
+      within (is_blocked recovery.paths.current.state bytes) (is_full words recovery bytes) ack _ _ _ refl
       (rw is_asked at (sym is_sent ∙ sends))
 
 -- what the limit permits is transmitted or delayed

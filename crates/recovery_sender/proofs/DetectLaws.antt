@@ -70,7 +70,7 @@ module _ {P M : Type 0} (look : LossPass) (packets : Packets P M) (numbers : Lis
       by (Some probe) is = sym (cut_more attempts probe true)
 
 -- all steps, in order
-module _ {F Q R C K S M P : Type 0} {f : _} {c : _} {q : _} {m : _} {r : _} (look : LossPass)
+module _ {F Q R C K S M P : Type 0} {f : _} {c : _} {q : _} {m : _} {r : _} (look : LossPass) (now : ℕ)
     (start found told shown probed new : Sender F Q R C K S M P f c q m r) (attempts last : List LossAttempt)
     (numbers : List ℕ) (reported persistent : Bool) (bytes : ℕ) (sent time : Option ℕ) where
   on : (steps more : List (SenderStep Q S M P)) (old between new : Sender F Q R C K S M P f c q m r)
@@ -82,16 +82,16 @@ module _ {F Q R C K S M P : Type 0} {f : _} {c : _} {q : _} {m : _} {r : _} (loo
       (state_in old) (state_in between) (state_in new)
 
   pub goes_all : TakesSteps (trying look.space attempts) start found → TakesSteps
-      (ended look.at reported numbers) found told
-      → TakesSteps (congested look.at persistent bytes sent) told shown → TakesSteps
+      (ended now reported numbers) found told
+      → TakesSteps (congested now persistent bytes sent) told shown → TakesSteps
       (trying look.space last) shown probed → TakesSteps (loss_time look.space time ∷ []) probed new
-      → TakesSteps (trying look.space attempts ++ (ended look.at reported numbers ++
-      (congested look.at persistent bytes sent
+      → TakesSteps (trying look.space attempts ++ (ended now reported numbers ++
+      (congested now persistent bytes sent
       ++ (trying look.space last ++ loss_time look.space time ∷ [])))) start new
   goes_all finds ends congests probes times = record {
     leads = on (trying look.space attempts) _ start found new finds.leads
-        (on (ended look.at reported numbers) _ found told new ends.leads
-        (on (congested look.at persistent bytes sent) _ told shown new congests.leads
+        (on (ended now reported numbers) _ found told new ends.leads
+        (on (congested now persistent bytes sent) _ told shown new congests.leads
         (on (trying look.space last) (loss_time look.space time ∷ []) shown probed new probes.leads times.leads)));
     variables = times.variables ∙ probes.variables ∙ congests.variables ∙ ends.variables ∙ finds.variables;
   }
@@ -113,10 +113,10 @@ no_persistence look packets = ((λ never. absurd (true≢false (sym never))), λ
 
 -- ---- the pass, by the state before and after
 
-module _ {F Q R C K S M P : Type 0} {f : _} {c : _} {q : _} {m : _} {r : _} (space : SpaceId) (now : ℕ) (due : Bool)
+module _ {F Q R C K S M P : Type 0} {f : _} {c : _} {q : _} {m : _} {r : _} (space : SpaceId) (now at : ℕ) (due : Bool)
     (old : Sender F Q R C K S M P f c q m r) (losses : Losses) (new : Sender F Q R C K S M P f c q m r) where
   abbrev look_for : ℕ → LossPass
-  look_for largest = look_of (state_in old) old.variables space now due largest
+  look_for largest = look_of (state_in old) old.variables space at due largest
 
   -- the bytes of the packets that count
   abbrev counted_in : ℕ → ℕ
@@ -126,7 +126,7 @@ module _ {F Q R C K S M P : Type 0} {f : _} {c : _} {q : _} {m : _} {r : _} (spa
   abbrev IsLook : ℕ → Type 0
   IsLook largest = let look = look_for largest in let packets = packets_in (state_in old) space in
       (attempts : List LossAttempt) × (time : Option ℕ)
-      × (result : PassResult look packets attempts losses time) × TakesSteps (detecting look attempts result.found
+      × (result : PassResult look packets attempts losses time) × TakesSteps (detecting look now attempts result.found
       losses (min (bytes_counted look packets losses.numbers.items) largest_u64)
       (last_counted look packets losses.numbers.items) time) old new
 
@@ -141,11 +141,11 @@ module _ {F Q R C K S M P : Type 0} {f : _} {c : _} {q : _} {m : _} {r : _} (spa
       (time : Option ℕ) → PassResult (look_for largest) (packets_in (state_in old) space) attempts losses time
       → ForEveryExplainedPast old (PersistsByEvents (look_for largest) losses old.variables.sampled)
   persists_then largest is attempts time =
-      persists_by_events space now due old (kept_where (state_in old) space largest is) largest attempts losses time
+      persists_by_events space at due old (kept_where (state_in old) space largest is) largest attempts losses time
 
   -- nothing is tracked below the largest acknowledged
   pub detects_none : HasNoGap (state_in old) space → IsEmptyLosses losses
-      → TakesSteps (loss_time space None ∷ []) old new → DetectsLosses space now due old losses new
+      → TakesSteps (loss_time space None ∷ []) old new → DetectsLosses space now at due old losses new
   detects_none none nothing goes = record {
     looks = λ largest is. (
       [],
@@ -184,7 +184,7 @@ module _ {F Q R C K S M P : Type 0} {f : _} {c : _} {q : _} {m : _} {r : _} (spa
 
   -- all packets were scanned
   pub detects_all : (largest : ℕ) → largest_in (state_in old) space ≡ Some largest → IsLook largest
-      → DetectsLosses space now due old losses new
+      → DetectsLosses space now at due old losses new
   detects_all largest known look = record {
     looks = λ other is. (let found = subst IsLook (same_Some largest other (sym known ∙ is)) look in
         (found.0, found.1, found.2, promised other is found.0 found.1 found.2, found.3));
@@ -226,7 +226,7 @@ module _ {F Q R C K S M P : Type 0} {f : _} {c : _} {q : _} {m : _} {r : _} (spa
               (counted_in largest) losses.congestion (rw (← looked.bytes, ← looked.last_sent) congestion);
           black_hole = unreported;
         },
-        rw (← looked.bytes, ← looked.last_sent) (goes_all look old found told shown probed new finds.attempts
+        rw (← looked.bytes, ← looked.last_sent) (goes_all look now old found told shown probed new finds.attempts
             (probe_attempts tally.probe losses.probe) losses.numbers.items losses.is_black_hole losses.is_persistent
             tally.bytes tally.last_sent after.loss_time finds.goes ends congests probes times),
       )
@@ -237,7 +237,7 @@ module _ {F Q R C K S M P : Type 0} {f : _} {c : _} {q : _} {m : _} {r : _} (spa
       probe_found (Some probe) told number is = told.0 ∙ is
 
   -- the variables are unchanged
-  pub variables_kept : DetectsLosses space now due old losses new → new.variables ≡ old.variables
+  pub variables_kept : DetectsLosses space now at due old losses new → new.variables ≡ old.variables
   variables_kept detects = by_largest (largest_in (state_in old) space) refl
     where
       by_largest : (largest : Option ℕ) → largest_in (state_in old) space ≡ largest → new.variables ≡ old.variables

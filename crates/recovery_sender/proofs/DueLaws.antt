@@ -2,7 +2,7 @@
 use Rattle.std.proofs.Common.{◌≡◌, ℕ, true, false, Bool, ◌||◌, Option, None, Some, option_map, Result, Ok, Err, inl, inr, refl, sym, subst, ◌∙◌, arith}
 use Rattle.std.proofs.lemmas.Bool.Decides.{nat_tests}
 use Rattle.std.proofs.lemmas.Option.{none-some}
-use Rattle.std.specs.Prelude.{if◌then◌else◌, nat_le, nat_lt, not}
+use Rattle.std.specs.Prelude.{if◌then◌else◌, nat_le, nat_lt}
 use Rattle.std.specs.Option.{option_and_then, option_or}
 use Rattle.recovery_base.specs.declared.below.SpaceId.{SpaceId}
 use Rattle.recovery_base.specs.declared.below.SpaceId.TheVariants.{Initial, Handshake, Data}
@@ -15,6 +15,7 @@ use Rattle.recovery_losses.specs.declared.due.Due.{Due}
 use Rattle.recovery_losses.specs.declared.due.Due.TheVariants.{Losses, Probes, AntiDeadlock}
 use Rattle.recovery_losses.specs.Due.{sooner}
 use Rattle.recovery_losses.specs.declared.variables.Variables.{Variables}
+use Rattle.recovery_losses.specs.Variables.{is_address_validated}
 use Rattle.recovery_sender.specs.declared.sender.SenderError.{SenderError}
 use Rattle.recovery_sender.specs.declared.sender.Sender.{Sender}
 use Rattle.recovery_sender.specs.declared.sender.probes.Timeout.{Timeout}
@@ -22,7 +23,7 @@ use Rattle.recovery_sender.specs.declared.sender.probes.Timeout.TheVariants.{Not
 use Rattle.recovery_sender.specs.Senders.{state_in}
 use Rattle.recovery_sender.specs.Timeouts.{IsEarly, TimeoutResult, WaitsForItsTime}
 use Rattle.recovery_sender.specs.Calls.{due_now, space_due}
-use Rattle.recovery_sender.specs.Timer.{soonest, loss_due, probe_in, probe_due, waits, deadlock_space, may_deadlock, due_of, behind, pto_of, least_datagram}
+use Rattle.recovery_sender.specs.Timer.{soonest, loss_due, probe_in, probe_due, waits, deadlock_space, due_of, behind, pto_of, least_datagram}
 
 -- ---- the earliest of several
 
@@ -72,12 +73,10 @@ module _ (discarded : DiscardedSpaces) where
   mapped space None kept = tt {0}
   mapped space (Some time) kept = kept
 
-  probed : (space : SpaceId) (elicits : Bool) (due : ℕ → ℕ) (time : Option ℕ)
-      → is_discarded space discarded ≡ false
-      → IsThere (if elicits then option_map (λ sent. (due sent, Probes space)) time else None)
-  probed space false due time kept = tt {0}
-  probed space true due None kept = tt {0}
-  probed space true due (Some time) kept = kept
+  probed : (space : SpaceId) (due : ℕ → ℕ) (start : Option ℕ) → is_discarded space discarded ≡ false
+      → IsThere (option_map (λ start. (due start, Probes space)) start)
+  probed space due None kept = tt {0}
+  probed space due (Some start) kept = kept
 
   lost : {P M : Type 0} (space : SpaceId) (gone : Bool) (here : Space P M) → is_discarded space discarded ≡ gone
       → IsThere (option_map (λ time. (time, Losses space))
@@ -97,7 +96,7 @@ module _ {K P M : Type 0} (recovery : RecoveryState K P M) (variables : Variable
       let here = space_of space recovery.spaces in
       unless_has (Lives recovery.discarded) (waits recovery variables space) _
       (within recovery.discarded (is_discarded space recovery.discarded) here (probe_in recovery variables space)
-      (λ kept. probed recovery.discarded space _ (λ sent. behind sent (pto_of recovery variables space)) _ kept))
+      (λ kept. probed recovery.discarded space (λ start. behind start (pto_of recovery variables space)) _ kept))
 
   due_there_or_none : IsThere recovery.discarded (due_of recovery variables)
   due_there_or_none =
@@ -107,7 +106,7 @@ module _ {K P M : Type 0} (recovery : RecoveryState K P M) (variables : Variable
       (λ space. lost gone space (is_discarded space gone) (space_of space recovery.spaces) refl))
       (unless_has Here (is_blocked recovery.paths.current.state least_datagram) _
       (or_has Here _ _ (soonest_has Here (probe_due recovery variables) probe_there)
-      (ended gone last (not (may_deadlock recovery variables)) (is_discarded last gone) _ refl)))
+      (ended gone last (is_address_validated variables) (is_discarded last gone) _ refl)))
 
   pub due_there : (due : ℕ × Due) → due_of recovery variables ≡ Some due
       → is_discarded (space_due due.1) recovery.discarded ≡ false

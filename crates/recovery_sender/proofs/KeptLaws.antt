@@ -13,16 +13,16 @@ module _ {F Q R C K S M P : Type 0} {f : _} {c : _} {q : _} {m : _} {r : _} (spa
   sample_keeps delay None goes = goes.variables
   sample_keeps delay (Some rtt) samples = samples.2.variables ∙ samples.1.variables
 
-  compared_keeps : (now newly : ℕ) (counts : EcnCounts) (end : EcnOutcome)
-      → EcnCompared space now newly old new counts end
-      → new.variables ≡ old.variables
-  compared_keeps now newly counts Quiet compares = compares.2.variables
-  compared_keeps now newly counts Marked (answer, between, is, tells, congests) = congests.variables ∙ tells.variables
-  compared_keeps now newly counts Failed (between, refusal, tells, stops) = stops.variables ∙ tells.variables
+  module _ (now newly : ℕ) (sent : Option ℕ) where
+    compared_keeps : (counts : EcnCounts) (end : EcnOutcome) → EcnCompared space now newly sent old new counts end
+        → new.variables ≡ old.variables
+    compared_keeps counts Quiet compares = compares.2.variables
+    compared_keeps counts Marked (answer, between, is, tells, congests) = congests.variables ∙ tells.variables
+    compared_keeps counts Failed (between, refusal, tells, stops) = stops.variables ∙ tells.variables
 
-  pub ecn_keeps : (now newly : ℕ) (sending : Bool) (counts : Option EcnCounts) (raised : Bool) (end : EcnOutcome)
-      → EcnResult space now newly old new sending counts raised end → new.variables ≡ old.variables
-  ecn_keeps now newly false counts raised end comes = comes.1.variables
-  ecn_keeps now newly true None raised end comes = comes.1.variables
-  ecn_keeps now newly true (Some counts) false end comes = comes.1.variables
-  ecn_keeps now newly true (Some counts) true end comes = compared_keeps now newly counts end comes
+    pub ecn_keeps : (sending : Bool) (counts : Option EcnCounts) (raised : Bool) (end : EcnOutcome)
+        → EcnResult space now newly sent old new sending counts raised end → new.variables ≡ old.variables
+    ecn_keeps false counts raised end comes = comes.1.variables
+    ecn_keeps true counts false end comes = comes.1.variables
+    ecn_keeps true None true end comes = comes.1.variables
+    ecn_keeps true (Some counts) true end comes = compared_keeps counts end comes

@@ -1,8 +1,10 @@
 pub mod OnlyPtoLaws
+pub mod EcnLaws
 pub mod EventLaws
 pub mod ExtendedLaws
 pub mod RenewLaws
 pub mod AckRoomLaws
+pub mod AloneLaws
 pub mod AttemptLaws
 pub mod RetransmitAllLaws
 pub mod AckLaws
@@ -19,6 +21,7 @@ pub mod LeadLaws
 pub mod TimerUnchangedLaws
 pub mod TimerKeptLaws
 pub mod PastLaws
+pub mod PathLaws
 pub mod PersistenceLaws
 pub mod PersistentLaws
 pub mod PromiseLaws
@@ -28,5 +31,6 @@ pub mod SampleLaws
 mod SampleRows
 pub mod StepLaws
 pub mod TimerLaws
+pub mod WaitingLaws
 pub mod WindowLaws
 pub mod RunLaws

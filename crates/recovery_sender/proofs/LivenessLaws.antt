@@ -1,6 +1,7 @@
 -- A sender never stalls: each call leaves the timer set while an acknowledgement is due.
 use Rattle.std.proofs.Common.{◌≡◌, ◌≢◌, ◌⊎◌, ◌≤◌, ℕ, ◌||◌, nat_lt, true, false, Bool, ltb-true, ltb-false, true≢false, List, [], ◌∷◌, ◌++◌, Option, None, Some, option_map, inl, inr, refl, sym, ap, ◌∙◌, arith}
 use Rattle.std.proofs.lemmas.Option.{none-some, same_Some}
+use Rattle.std.specs.Prelude.{if◌then◌else◌, max}
 use Rattle.std.specs.Option.{option_and_then, option_map_or}
 use Rattle.recovery_base.specs.declared.below.SpaceId.{SpaceId}
 use Rattle.recovery_base.specs.declared.below.SpaceId.TheVariants.{Initial, Handshake, Data}
@@ -23,11 +24,13 @@ use Rattle.recovery_losses.specs.declared.due.Due.{Due}
 use Rattle.recovery_losses.specs.declared.due.Due.TheVariants.{Losses, Probes}
 use Rattle.recovery_losses.specs.Due.{sooner}
 use Rattle.recovery_losses.specs.declared.variables.Variables.{Variables}
-use Rattle.recovery_sender.specs.Promises.Liveness.{IsAckOwed, IsSetFor, NeverStalls}
+use Rattle.recovery_losses.specs.Timeouts.{probe_start_of}
+use Rattle.recovery_losses.specs.Variables.{is_address_validated, waiting_since}
+use Rattle.recovery_sender.specs.Promises.Liveness.{IsAckOwed, IsSetFor, IsSetForWaiting, NeverStalls, loss_time_in}
 use Rattle.recovery_sender.specs.Promises.Pasts.{ForEveryPast}
 use Rattle.recovery_sender.specs.Senders.{state_in}
 use Rattle.recovery_sender.specs.Spaces.{space_in}
-use Rattle.recovery_sender.specs.Timer.{TimerIsSet, behind, deadlock_due, deadlock_space, due_of, has_eliciting, loss_due, may_deadlock, probe_due, probes_due, pto_of, soonest, least_datagram}
+use Rattle.recovery_sender.specs.Timer.{TimerIsSet, behind, deadlock_due, deadlock_space, due_of, has_eliciting, loss_due, probe_due, probes_due, pto_of, soonest, waits, least_datagram}
 
 -- ---- if an ack-eliciting packet is tracked, one was sent
 
@@ -170,6 +173,20 @@ soonest_than due Initial time found = sooner_than _ _ time (inl (sooner_than _ _
 soonest_than due Handshake time found = sooner_than _ _ time (inl (sooner_than _ _ time (inr found)))
 soonest_than due Data time found = sooner_than _ _ time (inr found)
 
+-- ---- from when a probe timeout is measured
+
+-- at most from the later of both times
+starts : (elicits : Bool) (since : ℕ) (last : Option ℕ) → (elicits ≡ true → last ≢ None)
+    → (start : ℕ) × (probe_start_of elicits (Some since) last ≡ Some start)
+    × (start ≤ max since (option_map_or (λ sent. sent) last 0))
+starts true since None some = absurd (some refl refl)
+starts true since (Some sent) some = (sent, refl, omega arith)
+starts false since None some = (since, refl, omega arith)
+starts false since (Some sent) some = (max since sent, refl, omega arith)
+
+behind_later : (one other span : ℕ) → one ≤ other → behind one span ≤ behind other span
+behind_later one other span later = omega (arith, later)
+
 -- ---- the timer
 
 module _ {K P M : Type 0} (recovery : RecoveryState K P M) (variables : Variables)
@@ -178,7 +195,41 @@ module _ {K P M : Type 0} (recovery : RecoveryState K P M) (variables : Variable
   set_to : (due : ℕ × Due) → due_of recovery variables ≡ Some due → moment LossDetection recovery.timers ≡ Some due.0
   set_to due is = set ∙ ap (λ (found : Option (ℕ × Due)). option_map (λ due. due.0) found) is
 
+  -- it is set to a loss time, or no later than this
+  abbrev IsSetBy : ℕ → Type 0
+  IsSetBy latest = (time : ℕ) × (moment LossDetection recovery.timers ≡ Some time)
+      × (((lost : SpaceId) × (loss_time_in recovery lost ≡ Some time)) ⊎ (time ≤ latest))
+
   module _ (unblocked : is_blocked recovery.paths.current.state least_datagram ≡ false) where
+    -- if a probe of a space is due by then
+    set_by : (space : SpaceId) (latest : ℕ) → NoLater (probe_due recovery variables space) latest → IsSetBy latest
+    set_by space latest due = by (soonest (loss_due recovery)) refl
+      where
+        probe_soon : NoLater (soonest (probe_due recovery variables)) latest
+        probe_soon = soonest_than (probe_due recovery variables) space latest due
+
+        by : (losses : Option (ℕ × Due)) → soonest (loss_due recovery) ≡ losses → IsSetBy latest
+        by None none = (
+          probe_soon.0.0,
+          set_to probe_soon.0 (rw (none, unblocked, probe_soon.1) refl),
+          inr probe_soon.2,
+        )
+        by (Some due) some =
+            let lost = soonest_from (loss_due recovery) due some in (
+              due.0,
+              set_to due (rw some refl),
+              inl (
+                lost.0,
+                loss_time_of (option_and_then (λ here. here.loss_time) (space_in recovery lost.0)) lost.0 due lost.1,
+              ),
+            )
+          where
+            loss_time_of : (time : Option ℕ) (space : SpaceId) (due : ℕ × Due)
+                → option_map (λ time. (time, Losses space)) time ≡ Some due → time ≡ Some due.0
+            loss_time_of None space due is = absurd (none-some due is)
+            loss_time_of (Some time) space due is =
+                ap (λ n. Some n) (ap (λ (due : ℕ × Due). due.0) (same_Some _ due is))
+
     -- if an acknowledgement is due in a space, a probe of it is due
     module _ (space : SpaceId) (owed : IsAckOwed recovery variables space) (sent : ℕ)
         (last : owed.here.time_of_last_ack_eliciting_packet ≡ Some sent) where
@@ -186,41 +237,48 @@ module _ {K P M : Type 0} (recovery : RecoveryState K P M) (variables : Variable
           ≡ Some (behind sent (pto_of recovery variables space), Probes space)
       probe_is = rw (owed.goes, owed.lives, owed.elicits, last) refl
 
+      last_here : option_and_then (λ here. here.time_of_last_ack_eliciting_packet) (space_in recovery space)
+          ≡ Some sent
+      last_here = rw owed.lives last
+
       pub set_for : IsSetFor recovery variables space
-      set_for = by (soonest (loss_due recovery)) refl
-        where
-          probe_soon : NoLater (soonest (probe_due recovery variables)) (behind sent (pto_of recovery variables space))
-          probe_soon = soonest_than (probe_due recovery variables) space _ (_, probe_is, omega arith)
-
-          last_here : option_and_then (λ here. here.time_of_last_ack_eliciting_packet) (space_in recovery space)
-              ≡ Some sent
-          last_here = rw owed.lives last
-
-          by : (losses : Option (ℕ × Due)) → soonest (loss_due recovery) ≡ losses → IsSetFor recovery variables space
-          by None none = record {
-            time = probe_soon.0.0;
-            set = set_to probe_soon.0 (rw (none, unblocked, probe_soon.1) refl);
-            soon = inr (sent, last_here, probe_soon.2);
+      set_for = let set = set_by space (behind sent (pto_of recovery variables space)) (_, probe_is, omega arith) in
+          record {
+            time = set.0;
+            set = set.1;
+            soon = elim set.2 [ inl lost ↦ inl lost | inr soon ↦ inr (sent, last_here, soon) ];
           }
-          by (Some due) some =
-              let lost = soonest_from (loss_due recovery) due some in record {
-                time = due.0;
-                set = set_to due (rw some refl);
-                soon = inl (
-                  lost.0,
-                  loss_time_of (option_and_then (λ here. here.loss_time) (space_in recovery lost.0))
-                      lost.0 due lost.1,
-                );
-              }
+
+    -- and if a packet waits for room
+    module _ (space : SpaceId) (here : Space P M) (since : ℕ) (there : space_in recovery space ≡ Some here)
+        (waiting : waiting_since variables space ≡ Some since)
+        (some : has_eliciting (packets_of here) ≡ true → here.time_of_last_ack_eliciting_packet ≢ None) where
+      pub set_for_waiting : IsSetForWaiting recovery variables space since here.time_of_last_ack_eliciting_packet
+      set_for_waiting =
+          let start = starts (has_eliciting (packets_of here)) since here.time_of_last_ack_eliciting_packet some in
+          let goes = goes_of space since waiting in
+          let is : probe_due recovery variables space
+          ≡ Some (behind start.0 (pto_of recovery variables space), Probes space) =
+          rw (goes, there, waiting, start.1) refl in
+          let set = set_by space _ (_, is, behind_later _ _ (pto_of recovery variables space) start.2) in record {
+            time = set.0;
+            set = set.1;
+            soon = set.2;
+          }
+        where
+          -- 1-RTT packets do not wait
+          goes_of : (space : SpaceId) (since : ℕ) → waiting_since variables space ≡ Some since
+              → waits recovery variables space ≡ false
+          goes_of Initial since is = refl
+          goes_of Handshake since is = refl
+          goes_of Data since is = absurd (none-some since (never variables.is_handshake_confirmed is))
             where
-              loss_time_of : (time : Option ℕ) (space : SpaceId) (due : ℕ × Due)
-                  → option_map (λ time. (time, Losses space)) time ≡ Some due → time ≡ Some due.0
-              loss_time_of None space due is = absurd (none-some due is)
-              loss_time_of (Some time) space due is =
-                  ap (λ n. Some n) (ap (λ (due : ℕ × Due). due.0) (same_Some _ due is))
+              never : (confirmed : Bool) → (if confirmed then None else None) ≡ Some since → None ≡ Some since
+              never true is = is
+              never false is = is
 
     -- a client's anti-deadlock timer
-    deadlock_set : may_deadlock recovery variables ≡ true
+    deadlock_set : is_address_validated variables ≡ false
         → is_discarded (deadlock_space recovery variables) recovery.discarded ≡ false
         → moment LossDetection recovery.timers ≢ None
     deadlock_set unknown kept = by (soonest (loss_due recovery)) refl
@@ -247,36 +305,37 @@ module _ {F Q R C K S M P : Type 0} {f : _} {c : _} {q : _} {m : _} {r : _} wher
       → TimerIsSet (state_in sender) variables → ForEveryPast sender (λ past. NeverStalls (state_in sender) variables)
   never_stalls sender variables set config start random past came = record {
     probes = probes;
+    waiting = λ unblocked space here since there waiting. set_for_waiting (state_in sender) variables set unblocked
+        space here since there waiting (some space here there);
     deadlock = λ unblocked unknown kept. deadlock_set (state_in sender) variables set unblocked unknown kept;
   }
     where
+      -- if a space tracks an ack-eliciting packet, it sent one
+      some : (space : SpaceId) (here : Space P M) → space_in (state_in sender) space ≡ Some here
+          → has_eliciting (packets_of here) ≡ true → here.time_of_last_ack_eliciting_packet ≢ None
+      some space here there is none =
+          let log = (logs_of (begins f.built c.words (queue_model q.contents q.words q.blank) config start random)
+          past).spaces space in
+          let same : packets_of (space_of space (state_in sender).spaces) ≡ (sent_by q.words log).tracked =
+          ap (λ (sent : SentState P M). sent.tracked) (came.state_after.spaces space).sent in
+          let elicits : has_eliciting (sent_by q.words log).tracked ≡ true =
+          ap (λ (packets : Packets P M). has_eliciting packets) (sym same) ∙ rw here_is is in
+          some_sent q.words log elicits (sym (came.state_after.spaces space).last_sent
+          ∙ ap (λ (here : Space P M). here.time_of_last_ack_eliciting_packet) here_is ∙ none)
+        where
+          here_is : space_of space (state_in sender).spaces ≡ here
+          here_is = by_test (is_discarded space (state_in sender).discarded) refl
+            where
+              by_test : (test : Bool) → is_discarded space (state_in sender).discarded ≡ test
+                  → space_of space (state_in sender).spaces ≡ here
+              by_test true gone = absurd (none-some here (rw gone at there))
+              by_test false kept = same_Some _ here (rw kept at there)
+
       probes : is_blocked (state_in sender).paths.current.state least_datagram ≡ false → (space : SpaceId)
           → IsAckOwed (state_in sender) variables space → IsSetFor (state_in sender) variables space
       probes unblocked space owed = by owed.here.time_of_last_ack_eliciting_packet refl
         where
-          here_is : space_of space (state_in sender).spaces ≡ owed.here
-          here_is = by_test (is_discarded space (state_in sender).discarded) refl
-            where
-              by_test : (test : Bool) → is_discarded space (state_in sender).discarded ≡ test
-                  → space_of space (state_in sender).spaces ≡ owed.here
-              by_test true gone = absurd (none-some owed.here (rw gone at owed.lives))
-              by_test false kept = same_Some _ owed.here (rw kept at owed.lives)
-
-          log_elicits : has_eliciting (packets_of (space_of space (state_in sender).spaces)) ≡ true
-          log_elicits = rw here_is owed.elicits
-
-          some : owed.here.time_of_last_ack_eliciting_packet ≢ None
-          some none =
-              let log = (logs_of (begins f.built c.words (queue_model q.contents q.words q.blank) config start random)
-              past).spaces space in
-              let same : packets_of (space_of space (state_in sender).spaces) ≡ (sent_by q.words log).tracked =
-              ap (λ (sent : SentState P M). sent.tracked) (came.state_after.spaces space).sent in
-              let elicits : has_eliciting (sent_by q.words log).tracked ≡ true =
-              ap (λ (packets : Packets P M). has_eliciting packets) (sym same) ∙ log_elicits in
-              some_sent q.words log elicits (sym (came.state_after.spaces space).last_sent
-              ∙ ap (λ (here : Space P M). here.time_of_last_ack_eliciting_packet) here_is ∙ none)
-
           by : (last : Option ℕ) → owed.here.time_of_last_ack_eliciting_packet ≡ last
               → IsSetFor (state_in sender) variables space
-          by None none = absurd (some none)
+          by None none = absurd (some space owed.here owed.lives owed.elicits none)
           by (Some sent) last = set_for (state_in sender) variables set unblocked space owed sent last

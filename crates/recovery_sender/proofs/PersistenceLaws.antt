@@ -27,7 +27,7 @@ use Rattle.recovery_sender.specs.declared.sender.acks.EcnOutcome.{EcnOutcome}
 use Rattle.recovery_sender.specs.declared.sender.acks.EcnOutcome.TheVariants.{Quiet, Marked, Failed}
 use Rattle.recovery_sender.specs.declared.sender.losses.Losses.{Losses}
 use Rattle.recovery_sender.specs.declared.sender.Sender.{Sender}
-use Rattle.recovery_sender.specs.Acking.{EcnCompared, EcnResult, largest_sent}
+use Rattle.recovery_sender.specs.Acking.{EcnCompared, EcnResult}
 use Rattle.recovery_sender.specs.Attempts.{LossAttempt, probe_attempts, trying}
 use Rattle.recovery_sender.specs.Bounds.{IsWindowLeast, latest_start}
 use Rattle.recovery_sender.specs.Detection.{DetectsLosses, congested, ended}
@@ -212,14 +212,14 @@ module _ {F Q R C K S M P : Type 0} {f : _} {c : _} {q : _} {m : _} {r : _} wher
           (state_in new) refl goes.leads least
 
       -- the detection pass
-      pub detects_least : (space : SpaceId) (now : ℕ) (due : Bool) (losses : Losses)
-          → DetectsLosses space now due old losses new → losses.is_persistent ≡ true → Least new
-      detects_least space now due losses detects persistent = by (largest_in (state_in old) space) refl
+      pub detects_least : (space : SpaceId) (now at : ℕ) (due : Bool) (losses : Losses)
+          → DetectsLosses space now at due old losses new → losses.is_persistent ≡ true → Least new
+      detects_least space now at due losses detects persistent = by (largest_in (state_in old) space) refl
         where
           by : (largest : Option ℕ) → largest_in (state_in old) space ≡ largest → Least new
           by None none = absurd (true≢false (sym persistent ∙ (detects.none none).0.persistent))
           by (Some largest) is =
-              let look = look_of (state_in old) old.variables space now due largest in
+              let look = look_of (state_in old) old.variables space at due largest in
               let packets = packets_in (state_in old) space in
               let looks = detects.looks largest is in
               let result = looks.2 in
@@ -232,43 +232,43 @@ module _ {F Q R C K S M P : Type 0} {f : _} {c : _} {q : _} {m : _} {r : _} wher
               (rw persistent at looks.4.leads) (refl, old.bounded)
 
   -- the ECN counts
-  compared_least : (space : SpaceId) (now newly : ℕ) (counts : EcnCounts) (end : EcnOutcome)
+  compared_least : (space : SpaceId) (now newly : ℕ) (sent : Option ℕ) (counts : EcnCounts) (end : EcnOutcome)
       (old new : Sender F Q R C K S M P f c q m r)
       {IsSound : K → Type 0} (laws : ControllerLaws c.words IsSound)
       (starts : (factory : F) (now mtu : ℕ) → c.words.recovery_start (f.built factory now mtu) ≤ now)
-      → EcnCompared space now newly old new counts end → Least old → Least new
-  compared_least space now newly counts Quiet old new laws starts compares least =
+      → EcnCompared space now newly sent old new counts end → Least old → Least new
+  compared_least space now newly sent counts Quiet old new laws starts compares least =
       told_least old new (Ecn space newly counts) (Ok compares.0) refl compares.2 least
-  compared_least space now newly counts Marked old new laws starts (answer, between, is, tells, reports) least =
-      congested_least between new laws starts now 0 (largest_sent (state_in between) space) reports
+  compared_least space now newly sent counts Marked old new laws starts (answer, between, is, tells, reports) least =
+      congested_least between new laws starts now 0 sent reports
       (told_least old between (Ecn space newly counts) (Ok answer) refl tells least)
-  compared_least space now newly counts Failed old new laws starts (between, refusal, tells, stops) least =
+  compared_least space now newly sent counts Failed old new laws starts (between, refusal, tells, stops) least =
       marked_least between new _ stops (told_least old between (Ecn space newly counts) (Err refusal) refl tells least)
 
-  ecn_least : (space : SpaceId) (now newly : ℕ) (sending : Bool) (counts : Option EcnCounts) (raised : Bool)
-      (end : EcnOutcome) (old new : Sender F Q R C K S M P f c q m r)
+  ecn_least : (space : SpaceId) (now newly : ℕ) (sent : Option ℕ) (sending : Bool)
+      (counts : Option EcnCounts) (raised : Bool) (end : EcnOutcome) (old new : Sender F Q R C K S M P f c q m r)
       {IsSound : K → Type 0} (laws : ControllerLaws c.words IsSound)
       (starts : (factory : F) (now mtu : ℕ) → c.words.recovery_start (f.built factory now mtu) ≤ now)
-      → EcnResult space now newly old new sending counts raised end → Least old → Least new
-  ecn_least space now newly false counts raised end old new laws starts result least =
+      → EcnResult space now newly sent old new sending counts raised end → Least old → Least new
+  ecn_least space now newly sent false counts raised end old new laws starts result least =
       none_least old new result.1 least
-  ecn_least space now newly true None raised end old new laws starts result least =
+  ecn_least space now newly sent true counts false end old new laws starts result least =
+      none_least old new result.1 least
+  ecn_least space now newly sent true None true end old new laws starts result least =
       marked_least old new _ result.1 least
-  ecn_least space now newly true (Some counts) false end old new laws starts result least =
-      none_least old new result.1 least
-  ecn_least space now newly true (Some counts) true end old new laws starts result least =
-      compared_least space now newly counts end old new laws starts result least
+  ecn_least space now newly sent true (Some counts) true end old new laws starts result least =
+      compared_least space now newly sent counts end old new laws starts result least
 
   -- a frame, after its acknowledgements
-  pub acknowledges_least : (space : SpaceId) (now newly : ℕ) (losses : Losses) (sending : Bool)
+  pub acknowledges_least : (space : SpaceId) (now at newly : ℕ) (sent : Option ℕ) (losses : Losses) (sending : Bool)
       (counts : Option EcnCounts) (raised : Bool) (end : EcnOutcome) (kept : Variables)
       (old looked heard new : Sender F Q R C K S M P f c q m r)
       {IsSound : K → Type 0} (laws : ControllerLaws c.words IsSound)
       (starts : (factory : F) (now mtu : ℕ) → c.words.recovery_start (f.built factory now mtu) ≤ now)
-      → DetectsLosses space now true old losses looked
-      → EcnResult space now newly looked heard sending counts raised end → CompletesCall [] kept heard new
+      → DetectsLosses space now at true old losses looked
+      → EcnResult space now newly sent looked heard sending counts raised end → CompletesCall [] kept heard new
       → losses.is_persistent ≡ true → Least new
-  acknowledges_least space now newly losses sending counts raised end kept old looked heard new laws starts detects
-      compares does persistent =
-      completes_least heard new kept does (ecn_least space now newly sending counts raised end looked heard laws
-      starts compares (detects_least old looked laws starts space now true losses detects persistent))
+  acknowledges_least space now at newly sent losses sending counts raised end kept old looked heard new laws starts
+      detects compares does persistent =
+      completes_least heard new kept does (ecn_least space now newly sent sending counts raised end looked heard laws
+      starts compares (detects_least old looked laws starts space now at true losses detects persistent))

@@ -10,6 +10,7 @@ use Rattle.recovery_spaces.specs.Packets.{Packet, Packets, packet_at}
 use Rattle.recovery_losses.specs.declared.looks.LossPass.{LossPass}
 use Rattle.recovery_losses.specs.Losses.{IsBelow, IsDueAt, IsLost, IsLostBelow, IsOneOf, IsDeclaredLost, lost_at}
 use Rattle.recovery_losses.specs.declared.frames.Ack.{Ack}
+use Rattle.recovery_losses.specs.Frames.{received_at}
 use Rattle.recovery_sender.specs.declared.sender.acks.Acknowledged.{Acknowledged}
 use Rattle.recovery_sender.specs.declared.sender.acks.NewlyAcked.{NewlyAcked}
 use Rattle.recovery_sender.specs.declared.sender.losses.Losses.{Losses}
@@ -77,12 +78,12 @@ module _ {F Q R C K S M P : Type 0} {f : _} {c : _} {q : _} {m : _} {r : _} (spa
       by : (config : RecoveryConfig F) (start : ℕ) (random : Stream) (past : History Q S M P)
           → ReachedBy (begins f.built c.words (queue_model q.contents q.words q.blank) config start random) past
           (state_in old) → (numbers : List ℕ) → newly.numbers.items ≡ numbers
-          → SamplesByPast space now ranges acked.numbers.items acked.rtt past
+          → SamplesByPast space (received_at ack now) ranges acked.numbers.items acked.rtt past
       by config start random past came [] none =
           rw (takes.none none).rtt tt
       by config start random past came (number ∷ numbers) some =
           rw (takes.numbers, (takes.some (λ none. absurd (some_none number numbers (sym some ∙ none)))).rtt)
-          (sampled_by_past old config start random past came space may.whole.0 now ranges may.whole.1
+          (sampled_by_past old config start random past came space may.whole.0 (received_at ack now) ranges may.whole.1
           newly.numbers.items newly.elicits may.newly)
 
 one_or_not : (number : ℕ) (numbers : List ℕ) → IsOneOf number numbers ⊎ (IsOneOf number numbers → ⊥)

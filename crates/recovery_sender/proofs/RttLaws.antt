@@ -58,21 +58,21 @@ module _ {F Q R C K S M P : Type 0} {f : _} {c : _} {q : _} {m : _} {r : _} (sen
       let one = some_elicits numbers more in
       record { number = one.number; elicits = one.elicits; among = inr one.among }
 
-  module _ (now : ℕ) (ranges : List (ℕ × ℕ)) (fine : are_ranges ranges ≡ true) (numbers : List ℕ) (elicits : Bool)
+  module _ (received : ℕ) (ranges : List (ℕ × ℕ)) (fine : are_ranges ranges ≡ true) (numbers : List ℕ) (elicits : Bool)
       (newly : AreNewlyAcked (packets_in (state_in sender) space) ranges 0 numbers elicits) where
     abbrev Sampled : Option ℕ → Type 0
-    Sampled rtt = SamplesByPast space now ranges numbers rtt past
+    Sampled rtt = SamplesByPast space received ranges numbers rtt past
 
     sampled_on : (l : ℕ) (packet : Packet P M) → largest_of ranges ≡ Some l
         → packet_at (packets_in (state_in sender) space) l ≡ Some packet
-        → HasAckEliciting (packets_in (state_in sender) space) numbers → Sampled (Some (now - packet.time_sent))
+        → HasAckEliciting (packets_in (state_in sender) space) numbers → Sampled (Some (received - packet.time_sent))
     sampled_on l packet is found has =
         let one = some_elicits numbers has in record {
           largest = l;
           is_largest = is;
           newly = (newly.each l).1
               (has_largest ranges fine l is, λ none. none-some packet (sym none ∙ found));
-          since = ap (λ (at : ℕ). now - at)
+          since = ap (λ (at : ℕ). received - at)
               (sent_by_past sender config start random past came space kept l packet found);
           eliciting = one.number;
           elicits = one.elicits;
@@ -83,25 +83,25 @@ module _ {F Q R C K S M P : Type 0} {f : _} {c : _} {q : _} {m : _} {r : _} (sen
     by_packet : (l : ℕ) (found : Option (Packet P M)) → largest_of ranges ≡ Some l
         → packet_at (packets_in (state_in sender) space) l ≡ found
         → HasAckEliciting (packets_in (state_in sender) space) numbers
-        → Sampled (option_map (λ sent. now - sent) (sent_here (state_in sender) found))
+        → Sampled (option_map (λ sent. received - sent) (sent_here (state_in sender) found))
     by_packet l None is found has = tt
     by_packet l (Some packet) is found has =
         here (packet.path_generation == (state_in sender).paths.current.ledger.generation)
       where
         here : (same : Bool)
-            → Sampled (option_map (λ sent. now - sent) (if same then Some packet.time_sent else None))
+            → Sampled (option_map (λ sent. received - sent) (if same then Some packet.time_sent else None))
         here true = sampled_on l packet is found has
         here false = tt
 
     by_frame : (frame : Option ℕ) → largest_of ranges ≡ frame
-        → HasAckEliciting (packets_in (state_in sender) space) numbers → Sampled (option_map (λ sent. now - sent)
+        → HasAckEliciting (packets_in (state_in sender) space) numbers → Sampled (option_map (λ sent. received - sent)
         (option_and_then (λ largest. sent_on (state_in sender) space largest) frame))
     by_frame None is has = tt
     by_frame (Some l) is has = by_packet l (packet_at (packets_in (state_in sender) space) l) is refl has
 
-    by_elicits : (found : Bool) → elicits ≡ found → Sampled (rtt_of (state_in sender) space now ranges found)
+    by_elicits : (found : Bool) → elicits ≡ found → Sampled (rtt_of (state_in sender) space received ranges found)
     by_elicits false is = tt
     by_elicits true is = by_frame (largest_of ranges) refl (newly.elicits.0 is)
 
-    pub sampled_by_past : Sampled (rtt_of (state_in sender) space now ranges elicits)
+    pub sampled_by_past : Sampled (rtt_of (state_in sender) space received ranges elicits)
     sampled_by_past = by_elicits elicits refl

@@ -6,6 +6,7 @@ use Rattle.recovery_events.proofs.FeedingLaws.{fills}
 use Rattle.recovery_sender.specs.declared.sender.Sender.{Sender}
 use Rattle.recovery_sender.specs.Runs.{CallIntoSink, RunsCalls, CallsOverSource}
 use Rattle.recovery_sender.specs.declared.calls.Call.{Call}
+use Rattle.recovery_sender.proofs.WaitingLaws.{waits_by_answers}
 use Rattle.recovery_sender.specs.declared.calls.CallRecord.{CallRecord}
 
 module _ {F Q R C K S M P : Type 0} {f : _} {c : _} {q : _} {m : _} {r : _} where
@@ -29,7 +30,14 @@ module _ {F Q R C K S M P : Type 0} {f : _} {c : _} {q : _} {m : _} {r : _} wher
         (sender_of new)
     runs_from AreGiven calls old new given is =
         let over = runs_over calls old new is in
-        record { calls = calls; said = over.0; given = given; taken = over.2; runs = over.1 }
+        record {
+          calls = calls;
+          said = over.0;
+          given = given;
+          taken = over.2;
+          runs = over.1;
+          waits = waits_by_answers calls over.0 (sender_of old) (sender_of new) over.1;
+        }
 
   -- each call has one reply
   even : (calls : List (Call Q S M P)) (said : List (CallRecord Q)) (old new : Sender F Q R C K S M P f c q m r)

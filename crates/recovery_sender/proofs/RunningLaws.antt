@@ -4,8 +4,8 @@ use Rattle.std.proofs.Common.{◌≡◌, ◌≢◌, ◌⊎◌, ◌≤◌, ◌*�
 use Rattle.std.proofs.lemmas.Bool.Decides.{nat_tests}
 use Rattle.std.proofs.lemmas.List.Sums.{sum_by-cons}
 use Rattle.std.proofs.lemmas.Option.{none-some}
-use Rattle.std.specs.Option.{option_and_then}
-use Rattle.std.specs.Prelude.{not, ◌&&◌, ◌||◌, if◌then◌else◌}
+use Rattle.std.specs.Option.{option_and_then, option_map_or}
+use Rattle.std.specs.Prelude.{max, not, ◌&&◌, ◌||◌, if◌then◌else◌}
 use Rattle.rand_core.specs.Stream.{Stream}
 use Rattle.recovery_base.specs.declared.below.SpaceId.{SpaceId}
 use Rattle.recovery_base.specs.declared.below.SpaceId.TheVariants.{Initial, Handshake, Data}
@@ -27,7 +27,7 @@ use Rattle.recovery_spaces.proofs.PacketLaws.{number_at}
 use Rattle.recovery_losses.specs.declared.due.Due.{Due}
 use Rattle.recovery_losses.specs.declared.due.Due.TheVariants.{Losses}
 use Rattle.recovery_losses.specs.declared.variables.Variables.{Variables}
-use Rattle.recovery_losses.specs.Variables.{is_address_validated}
+use Rattle.recovery_losses.specs.Variables.{is_address_validated, waiting_since}
 use Rattle.recovery_history.specs.declared.config.RecoveryConfig.{RecoveryConfig}
 use Rattle.recovery_history.specs.History.{AtEach, Beginning, History, Reply, begins, queue_model}
 use Rattle.recovery_history.specs.Logs.{onto}
@@ -43,11 +43,11 @@ use Rattle.recovery_history.proofs.EntryKinds.{sends_none, space_kept, space_kin
 use Rattle.recovery_history.proofs.Runs.{kept_after}
 use Rattle.recovery_history.proofs.TrackedLaws.{AllTracked, Tracks, counts, keeps_tracked, none_tracked, sent_in, stands, times}
 use Rattle.recovery_sender.specs.declared.sender.Sender.{Sender}
-use Rattle.recovery_sender.specs.Promises.Liveness.{HasNoLossDue, IsAckOwed, IsOutstanding, IsSetInTime, IsTimerByEvents, NeverStalls, deadlock_space_by, last_sent_at, may_send}
+use Rattle.recovery_sender.specs.Promises.Liveness.{HasNoLossDue, IsAckOwed, IsOutstanding, IsSetInTime, IsSetWhileWaiting, IsTimerByEvents, NeverStalls, deadlock_space_by, last_sent_at, may_send}
 use Rattle.recovery_sender.specs.Promises.Pasts.{ForEveryPast, ForEveryRun}
 use Rattle.recovery_sender.specs.Senders.{state_in}
 use Rattle.recovery_sender.specs.Spaces.{packets_in, space_in}
-use Rattle.recovery_sender.specs.Timer.{TimerIsSet, deadlock_space, due_of, has_eliciting, loss_due, may_deadlock, probe_due, probes_due, tracks_eliciting, waits, least_datagram}
+use Rattle.recovery_sender.specs.Timer.{TimerIsSet, behind, deadlock_space, due_of, has_eliciting, loss_due, probe_due, probes_due, pto_of, waits, least_datagram}
 use Rattle.recovery_sender.proofs.PastLaws.{elicits_by_past, tracked_by}
 
 -- ---- a tracked ack-eliciting packet
@@ -171,25 +171,19 @@ module _ {F K Q S M P : Type 0} (beginning : Beginning F K Q S M P) (past : Hist
 
 -- ---- the timer
 
-either_true : (one other : Bool) → (one ≡ false) ⊎ (other ≡ true) → (not one || other) ≡ true
-either_true true other (inl never) = absurd (true≢false never)
-either_true false other (inl is) = refl
-either_true true other (inr is) = is
-either_true false other (inr is) = refl
-
 module _ {K P M : Type 0} (recovery : RecoveryState K P M) (variables : Variables) where
   -- nothing is due
   none_due : ((space : SpaceId) → loss_due recovery space ≡ None)
-      → ((space : SpaceId) → probe_due recovery variables space ≡ None) → may_deadlock recovery variables ≡ false
+      → ((space : SpaceId) → probe_due recovery variables space ≡ None) → is_address_validated variables ≡ true
       → due_of recovery variables ≡ None
-  none_due losses probes never =
+  none_due losses probes known =
       rw (losses Initial, losses Handshake, losses Data)
       (by (is_blocked recovery.paths.current.state least_datagram) refl)
     where
       by : (blocked : Bool) → is_blocked recovery.paths.current.state least_datagram ≡ blocked
           → probes_due recovery variables ≡ None
       by true is = rw is refl
-      by false is = rw (is, probes Initial, probes Handshake, probes Data, never) refl
+      by false is = rw (is, probes Initial, probes Handshake, probes Data, known) refl
 
   blocked_due : ((space : SpaceId) → loss_due recovery space ≡ None)
       → is_blocked recovery.paths.current.state least_datagram ≡ true → due_of recovery variables ≡ None
@@ -197,24 +191,14 @@ module _ {K P M : Type 0} (recovery : RecoveryState K P M) (variables : Variable
 
   no_probe : (space : SpaceId) → (is_discarded space recovery.discarded ≡ false
       → has_eliciting (packets_of (space_of space recovery.spaces)) ≡ false)
-      → probe_due recovery variables space ≡ None
-  no_probe space none = by (waits recovery variables space) refl (is_discarded space recovery.discarded) refl
+      → waiting_since variables space ≡ None → probe_due recovery variables space ≡ None
+  no_probe space none unheld = by (waits recovery variables space) refl (is_discarded space recovery.discarded) refl
     where
       by : (waiting : Bool) → waits recovery variables space ≡ waiting → (gone : Bool)
           → is_discarded space recovery.discarded ≡ gone → probe_due recovery variables space ≡ None
       by true waiting gone is = rw waiting refl
       by false goes true is = rw (goes, is) refl
-      by false goes false is = rw (goes, is, none is) refl
-
-  tracks_none : (space : SpaceId) → (is_discarded space recovery.discarded ≡ false
-      → has_eliciting (packets_of (space_of space recovery.spaces)) ≡ false)
-      → tracks_eliciting recovery variables space ≡ false
-  tracks_none space none = by (is_discarded space recovery.discarded) refl
-    where
-      by : (gone : Bool) → is_discarded space recovery.discarded ≡ gone
-          → tracks_eliciting recovery variables space ≡ false
-      by true is = rw is refl
-      by false is = rw (is, none is) refl
+      by false goes false is = rw (goes, is, none is, unheld) refl
 
 module _ {F Q R C K S M P : Type 0} {f : _} {c : _} {q : _} {m : _} {r : _} (sender : Sender F Q R C K S M P f c q m r)
     (config : RecoveryConfig F) (start : ℕ) (random : Stream) (past : History Q S M P)
@@ -297,29 +281,36 @@ module _ {F Q R C K S M P : Type 0} {f : _} {c : _} {q : _} {m : _} {r : _} (sen
       last kept sent is = sym (last_by begun space past came.replies)
           ∙ (sym (came.state_after.spaces space).last_sent ∙ (rw kept at is))
 
-  -- and against a deadlock
+  -- and while a packet waits for room
+  waiting : NeverStalls state sender.variables → may_send begun past ≡ true → (space : SpaceId) (since : ℕ)
+      → was_discarded space past ≡ false → waiting_since sender.variables space ≡ Some since
+      → IsSetWhileWaiting past state sender.variables space since
+  waiting alive may space since there held =
+      let kept : is_discarded space state.discarded ≡ false = came.state_after.discarded space ∙ there in
+      let set = alive.waiting (free may) space (space_of space state.spaces) since (rw kept refl) held in
+      let last = (came.state_after.spaces space).last_sent ∙ last_by begun space past came.replies in record {
+        time = set.time;
+        set = sym (came.state_after.timers LossDetection) ∙ set.set;
+        soon = elim set.soon [
+          | inl lost ↦ inl lost
+          | inr probe ↦ inr (subst (λ (last : Option ℕ). set.time
+              ≤ behind (max since (option_map_or (λ sent. sent) last 0)) (pto_of state sender.variables space)) last
+              probe)
+        ];
+      }
+
+  -- and at a client that does not know its address validated
   deadlock : NeverStalls state sender.variables → may_send begun past ≡ true
       → was_discarded (deadlock_space_by past sender.variables) past ≡ false
-      → (is_address_validated sender.variables ≡ false)
-      ⊎ ((sender.variables.is_handshake_confirmed ≡ false) × IsOutstanding past Data)
-      → timer_value past LossDetection ≢ None
-  deadlock alive may there either none =
-      alive.deadlock (free may) (may_by either) kept (came.state_after.timers LossDetection ∙ none)
+      → is_address_validated sender.variables ≡ false → timer_value past LossDetection ≢ None
+  deadlock alive may there unknown none =
+      alive.deadlock (free may) unknown kept (came.state_after.timers LossDetection ∙ none)
     where
       kept : is_discarded (deadlock_space state sender.variables) state.discarded ≡ false
       kept = subst (λ gone. is_discarded
           (if sender.variables.has_handshake_keys && not gone then Handshake else Initial) state.discarded ≡ false)
           (sym (came.state_after.discarded Handshake))
           (came.state_after.discarded (deadlock_space_by past sender.variables) ∙ there)
-
-      may_by : (is_address_validated sender.variables ≡ false)
-          ⊎ ((sender.variables.is_handshake_confirmed ≡ false) × IsOutstanding past Data)
-          → may_deadlock state sender.variables ≡ true
-      may_by (inl unknown) = rw unknown refl
-      may_by (inr (unconfirmed, outstanding)) =
-          let alive : is_discarded Data state.discarded ≡ false = came.state_after.discarded Data ∙ outstanding.0 in
-          either_true (is_address_validated sender.variables) _
-          (inr (rw (unconfirmed, alive, tracked_here Data alive outstanding) refl))
 
   -- it is stopped if no byte may be sent
   stops_blocked : TimerIsSet state sender.variables → HasNoLossDue state → may_send begun past ≡ false
@@ -331,18 +322,15 @@ module _ {F Q R C K S M P : Type 0} {f : _} {c : _} {q : _} {m : _} {r : _} (sen
 
   -- it is stopped if nothing is due
   stops : TimerIsSet state sender.variables → HasNoLossDue state
-      → ((space : SpaceId) → IsOutstanding past space → ⊥) → is_address_validated sender.variables ≡ true
-      → timer_value past LossDetection ≡ None
-  stops set losses none known =
-      let never : may_deadlock state sender.variables ≡ false =
-      rw (known, tracks_none state sender.variables Data (none_here none Data)) (no_more sender.variables) in
+      → ((space : SpaceId) → IsOutstanding past space → ⊥)
+      → ((space : SpaceId) → waiting_since sender.variables space ≡ None)
+      → is_address_validated sender.variables ≡ true → timer_value past LossDetection ≡ None
+  stops set losses none unheld known =
       sym (came.state_after.timers LossDetection)
       ∙ (set ∙ ap (λ (due : Option (ℕ × Due)). option_map (λ due. due.0) due)
       (none_due state sender.variables (λ space. ap (λ time. option_map (λ time. (time, Losses space)) time)
-      (losses space)) (λ space. no_probe state sender.variables space (none_here none space)) never))
-    where
-      no_more : (variables : Variables) → (not variables.is_handshake_confirmed && false) ≡ false
-      no_more variables = grind arith
+      (losses space))
+      (λ space. no_probe state sender.variables space (none_here none space) (unheld space)) known))
 
 pub keeps_time : {F Q R C K S M P : Type 0} {f : _} {c : _} {q : _} {m : _} {r : _}
     (sender : Sender F Q R C K S M P f c q m r) → TimerIsSet (state_in sender) sender.variables
@@ -350,6 +338,7 @@ pub keeps_time : {F Q R C K S M P : Type 0} {f : _} {c : _} {q : _} {m : _} {r :
     → ForEveryRun sender (λ beginning past. IsTimerByEvents beginning past (state_in sender) sender.variables)
 keeps_time sender set alive config start random past came = record {
   runs = runs sender config start random past came (alive config start random past came);
+  waiting = waiting sender config start random past came (alive config start random past came);
   deadlock = deadlock sender config start random past came (alive config start random past came);
   blocked = stops_blocked sender config start random past came set;
   stops = stops sender config start random past came set;

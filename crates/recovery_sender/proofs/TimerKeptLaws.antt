@@ -6,6 +6,8 @@ use Rattle.recovery_events.specs.declared.event.Answer.TheVariants.{Done}
 use Rattle.recovery_events.specs.declared.event.Event.{Event}
 use Rattle.recovery_events.specs.declared.event.Event.TheVariants.{DatagramIn, PollMtu, Send}
 use Rattle.recovery_paths.specs.declared.path_pair.PathName.TheVariants.{Current}
+use Rattle.recovery_paths.specs.PathStates.{PathMarks}
+use Rattle.recovery_history.specs.CallerState.{with_marks_at}
 use Rattle.recovery_history.specs.Transitions.{StateTransition}
 use Rattle.recovery_history.specs.History.{QueueModel, queue_model}
 use Rattle.recovery_history.specs.RecoveryState.{RecoveryState}
@@ -16,7 +18,7 @@ use Rattle.recovery_losses.specs.Variables.{based, probed}
 use Rattle.recovery_sender.specs.Calls.{after_event, elicits_in, goes_out, to_send, transmit_steps}
 use Rattle.recovery_sender.specs.TimerUnchanged.{leaves_timer}
 use Rattle.recovery_sender.specs.Senders.{state_in}
-use Rattle.recovery_sender.specs.Steps.{told, TakesSteps}
+use Rattle.recovery_sender.specs.Steps.{marked, told, TakesSteps}
 use Rattle.recovery_sender.proofs.TimerUnchangedLaws.{KeepsTiming, keeps_timing, left_by, received_in, timing_in, transmitted_left}
 
 -- ---- an event
@@ -65,3 +67,9 @@ module _ {F Q R C K S M P : Type 0} {f : _} {c : _} {q : _} {m : _} {r : _}
       keeps_timing (state_in old) (state_in new) (state_in new) old.variables old.variables new.variables refl
       goes.variables (transmitted_left f.built c.words (queue_model q.contents q.words q.blank) old.variables
       (state_in old) (state_in new) unlimited now bytes checked sent goes.leads)
+
+  -- marks of the path in use are stored
+  pub marks_left : (marks : PathMarks) → TakesSteps (marked marks ∷ []) old new
+      → KeepsTiming (state_in old) old.variables (state_in new) new.variables
+  marks_left marks goes = keeps_timing (state_in old) (with_marks_at Current marks (state_in old)) (state_in new)
+      old.variables old.variables new.variables goes.leads goes.variables refl

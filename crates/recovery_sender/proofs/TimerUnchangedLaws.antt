@@ -1,6 +1,6 @@
 -- The timer is due at the same time if none of its inputs changes.
 use Rattle.std.proofs.Common.{◌≡◌, ℕ, true, false, Bool, Option, None, Some, option_map, Ok, ◌⊎◌, refl, ap, subst, sym, inl, inr, true≢false, ◌∙◌}
-use Rattle.std.specs.Prelude.{if◌then◌else◌, min, not, ◌&&◌, ◌||◌}
+use Rattle.std.specs.Prelude.{if◌then◌else◌, min, not, ◌||◌}
 use Rattle.std.specs.Option.{is_some, option_and_then, option_map_or, option_or}
 use Rattle.recovery_base.specs.declared.below.SpaceId.{SpaceId}
 use Rattle.recovery_base.specs.declared.below.SpaceId.TheVariants.{Initial, Handshake, Data}
@@ -21,7 +21,7 @@ use Rattle.recovery_spaces.specs.SpaceLog.{SpaceEntry, heard, heard_again, takes
 use Rattle.recovery_spaces.specs.Spaces.{Space, SpaceStep, space_of, packets_of}
 use Rattle.recovery_losses.specs.declared.due.Due.{Due}
 use Rattle.recovery_losses.specs.declared.due.Due.TheVariants.{Losses, Probes}
-use Rattle.recovery_losses.specs.Timeouts.{probe_timeout_of}
+use Rattle.recovery_losses.specs.Timeouts.{probe_start_of, probe_timeout_of}
 use Rattle.recovery_paths.specs.declared.path_pair.PathName.TheVariants.{Current}
 use Rattle.recovery_paths.specs.PathLog.{PerPath, PathReplyInputs, paths_known}
 use Rattle.recovery_paths.specs.PathStates.{PathState, is_blocked}
@@ -38,8 +38,8 @@ use Rattle.recovery_sender.specs.declared.sender.packets.Transmission.TheVariant
 use Rattle.recovery_sender.specs.Calls.{transmit_steps}
 use Rattle.recovery_sender.specs.TimerUnchanged.{leaves_timer}
 use Rattle.recovery_sender.specs.Steps.{StepsLeadTo}
-use Rattle.recovery_losses.specs.Variables.{ack_delay_in, is_address_validated}
-use Rattle.recovery_sender.specs.Timer.{IsOnlyPto, behind, competes, deadlock_by, deadlock_due, due_of, has_eliciting, loss_due, may_deadlock, probe_due, probe_in, only_pto, pto_of, rtt_or, soonest, tracks_eliciting, waits, TimerIsSet, least_datagram}
+use Rattle.recovery_losses.specs.Variables.{ack_delay_in, waiting_since}
+use Rattle.recovery_sender.specs.Timer.{IsOnlyPto, behind, competes, deadlock_due, due_of, has_eliciting, loss_due, probe_due, probe_in, only_pto, pto_of, rtt_or, soonest, waits, TimerIsSet, least_datagram}
 
 -- ---- the inputs of a space
 
@@ -86,13 +86,14 @@ module _ {P M : Type 0} (one other : Space P M) (same : read_of one ≡ read_of 
   loss_same true = refl
   loss_same false = ap (λ (read : Read P M). loss_by read.1) same
 
-  abbrev probe_by : ℕ → Read P M → Option (ℕ × Due)
-  probe_by pto read =
-      if has_eliciting read.0 then option_map (λ sent. (behind sent pto, Probes space)) read.2 else None
+  abbrev probe_by : Option ℕ → ℕ → Read P M → Option (ℕ × Due)
+  probe_by waiting pto read = option_map (λ start. (behind start pto, Probes space))
+      (probe_start_of (has_eliciting read.0) waiting read.2)
 
-  probe_same : (first second : ℕ) → first ≡ second → probe_by first (read_of one) ≡ probe_by second (read_of other)
-  probe_same first second is =
-      ap (λ pto. probe_by pto (read_of one)) is ∙ ap (λ (read : Read P M). probe_by second read) same
+  probe_same : (waiting : Option ℕ) (first second : ℕ) → first ≡ second
+      → probe_by waiting first (read_of one) ≡ probe_by waiting second (read_of other)
+  probe_same waiting first second is =
+      ap (λ pto. probe_by waiting pto (read_of one)) is ∙ ap (λ (read : Read P M). probe_by waiting second read) same
 
 abbrev AllSame : (SpaceId → Option (ℕ × Due)) → (SpaceId → Option (ℕ × Due)) → Type 0
 AllSame one other = (space : SpaceId) → one space ≡ other space
@@ -222,7 +223,8 @@ module _ {K P M : Type 0} (variables : Variables) (old new : RecoveryState K P M
       go true gone = refl
       go false true = refl
       go false false =
-          probe_same (space_of space new.spaces) (space_of space old.spaces) (spaces space) space _ _ (pto_same space)
+          probe_same (space_of space new.spaces) (space_of space old.spaces) (spaces space) space
+          (waiting_since variables space) _ _ (pto_same space)
 
   abbrev with_seen : DiscardedSpaces × Rtt → RecoveryState K P M
   with_seen seen = record old {
@@ -232,23 +234,10 @@ module _ {K P M : Type 0} (variables : Variables) (old new : RecoveryState K P M
     };
   }
 
-  tracks_same : (space : SpaceId) → tracks_eliciting new variables space ≡ tracks_eliciting old variables space
-  tracks_same space = rw discarded (go (is_discarded space old.discarded))
-    where
-      go : (gone : Bool)
-          → option_map_or (λ (here : Space P M). has_eliciting (packets_of here))
-          (if gone then None else Some (space_of space new.spaces)) false
-          ≡ option_map_or (λ (here : Space P M). has_eliciting (packets_of here))
-          (if gone then None else Some (space_of space old.spaces)) false
-      go true = refl
-      go false = ap (λ (read : Read P M). has_eliciting read.0) (spaces space)
-
   deadlock_same : deadlock_due new variables ≡ deadlock_due old variables
   deadlock_same =
       let same : (new.discarded, new.paths.current.state.rtt) ≡ (old.discarded, old.paths.current.state.rtt) = cc in
-      ap (λ tracks. deadlock_by new variables (not (is_address_validated variables)
-      || (not variables.is_handshake_confirmed && tracks))) (tracks_same Data)
-      ∙ ap (λ (seen : DiscardedSpaces × Rtt). deadlock_by (with_seen seen) variables (may_deadlock old variables)) same
+      ap (λ (seen : DiscardedSpaces × Rtt). deadlock_due (with_seen seen) variables) same
 
   pub due_kept : due_of new variables ≡ due_of old variables
   due_kept =
@@ -407,7 +396,7 @@ module _ {F K Q S M P : Type 0} (built : F → ℕ → ℕ → K) (words : Contr
       → timing_in new variables ≡ timing_in old variables
   transmitted_left now bytes checked transmissions.Transmitted (between, changes, extends, is) = rw is
       (transmitted_in queue variables old between unlimited now bytes checked _ (inl refl) changes)
-  transmitted_left now bytes checked (transmissions.Delayed until) (between, changes, extends, is) = rw is
+  transmitted_left now bytes checked (transmissions.Delayed until ack) (between, changes, extends, is) = rw is
       (transmitted_in queue variables old between unlimited now bytes checked _ (inr (until, refl)) changes)
   transmitted_left now bytes checked transmissions.Blocked is = rw is refl
-  transmitted_left now bytes checked transmissions.Full is = rw is refl
+  transmitted_left now bytes checked (transmissions.Full ack) is = rw is refl

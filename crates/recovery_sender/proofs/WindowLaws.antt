@@ -24,15 +24,17 @@ use Rattle.recovery_sender.specs.Senders.{state_in}
 -- ---- by the state before
 
 module _ (checked : Bool) (window wanted : ℕ) where
-  paced_by_room : (delay : Option ℕ) → wanted ≤ window → IsByRoom checked (wanted ≤ window) (paced_to delay)
-  paced_by_room None fits = λ asked. fits
-  paced_by_room (Some until) fits = λ asked. fits
+  paced_by_room : (ack : Bool) (delay : Option ℕ) → wanted ≤ window
+      → IsByRoom checked (wanted ≤ window) (paced_to ack delay)
+  paced_by_room ack None fits = λ asked. fits
+  paced_by_room ack (Some until) fits = λ asked. fits
 
-  by_room : (blocked full : Bool) (delay : Option ℕ) → nat_lt window wanted ≡ full → checked ≡ true
-      → IsByRoom checked (wanted ≤ window) (if blocked then Blocked else if full then Full else paced_to delay)
-  by_room true full delay is asked = tt
-  by_room false true delay is asked = (asked, λ fits. grind (arith, nat_tests, is, fits))
-  by_room false false delay is asked = paced_by_room delay (grind (arith, nat_tests, is))
+  by_room : (blocked full ack : Bool) (delay : Option ℕ) → nat_lt window wanted ≡ full → checked ≡ true
+      → IsByRoom checked (wanted ≤ window)
+      (if blocked then Blocked else if full then Full ack else paced_to ack delay)
+  by_room true full ack delay is asked = tt
+  by_room false true ack delay is asked = (asked, λ fits. grind (arith, nat_tests, is, fits))
+  by_room false false ack delay is asked = paced_by_room ack delay (grind (arith, nat_tests, is))
 
   unasked : (blocked : Bool) → checked ≡ false
       → IsByRoom checked (wanted ≤ window) (if blocked then Blocked else Transmitted)
@@ -40,12 +42,12 @@ module _ (checked : Bool) (window wanted : ℕ) where
   unasked false is = λ asked. absurd (let never = sym is ∙ asked in cc)
 
 module _ {K P M : Type 0} (words : ControllerSemantics K) (recovery : RecoveryState K P M) (now bytes : ℕ) where
-  fits_now : (checked : Bool) → IsByRoom checked (bytes_in_flight recovery + bytes ≤ window_of words recovery)
-      (transmission words recovery now bytes checked)
-  fits_now true = by_room true (window_of words recovery) (bytes_in_flight recovery + bytes)
-      (is_blocked recovery.paths.current.state bytes) (is_full words recovery bytes)
+  fits_now : (checked ack : Bool) → IsByRoom checked (bytes_in_flight recovery + bytes ≤ window_of words recovery)
+      (transmission words recovery now bytes checked ack)
+  fits_now true ack = by_room true (window_of words recovery) (bytes_in_flight recovery + bytes)
+      (is_blocked recovery.paths.current.state bytes) (is_full words recovery bytes) ack
       (path_delay words now bytes recovery.paths.current.state) refl refl
-  fits_now false = unasked false (window_of words recovery) (bytes_in_flight recovery + bytes)
+  fits_now false ack = unasked false (window_of words recovery) (bytes_in_flight recovery + bytes)
       (is_blocked recovery.paths.current.state bytes) refl
 
 -- ---- by the events before
@@ -65,21 +67,21 @@ module _ {F K Q S M P : Type 0} (beginning : Beginning F K Q S M P) (past : Hist
       came.state_after.paths
       ∙ sym (flight_now beginning past counts.1).0
 
-  fits_by : (now bytes : ℕ) (checked : Bool) (sent : Transmission)
-      → sent ≡ transmission beginning.words recovery now bytes checked
+  fits_by : (now bytes : ℕ) (checked ack : Bool) (sent : Transmission)
+      → sent ≡ transmission beginning.words recovery now bytes checked ack
       → IsByRoom checked (FitsWindow beginning past bytes) sent
-  fits_by now bytes checked sent is =
+  fits_by now bytes checked ack sent is =
       subst (λ (sent : Transmission). IsByRoom checked (FitsWindow beginning past bytes) sent) (sym is)
       (subst (λ (flight : ℕ). IsByRoom checked (flight + bytes ≤ window_by beginning past)
-      (transmission beginning.words recovery now bytes checked)) flight_same
+      (transmission beginning.words recovery now bytes checked ack)) flight_same
       (subst (λ (window : ℕ). IsByRoom checked (bytes_in_flight recovery + bytes ≤ window)
-      (transmission beginning.words recovery now bytes checked)) window_same
-      (fits_now beginning.words recovery now bytes checked)))
+      (transmission beginning.words recovery now bytes checked ack)) window_same
+      (fits_now beginning.words recovery now bytes checked ack)))
 
 pub fits_exactly : {F Q R C K S M P : Type 0} {f : _} {c : _} {q : _} {m : _} {r : _}
-    (sender : Sender F Q R C K S M P f c q m r) (now bytes : ℕ) (checked : Bool) (sent : Transmission)
-    → sent ≡ transmission c.words (state_in sender) now bytes checked
+    (sender : Sender F Q R C K S M P f c q m r) (now bytes : ℕ) (checked ack : Bool) (sent : Transmission)
+    → sent ≡ transmission c.words (state_in sender) now bytes checked ack
     → ForEveryRun sender (λ beginning past. IsByRoom checked (FitsWindow beginning past bytes) sent)
-fits_exactly {f = f} {c = c} {q = q} sender now bytes checked sent is config start random past came =
+fits_exactly {f = f} {c = c} {q = q} sender now bytes checked ack sent is config start random past came =
     fits_by (begins f.built c.words (queue_model q.contents q.words q.blank) config start random) past
-    (state_in sender) came now bytes checked sent is
+    (state_in sender) came now bytes checked ack sent is

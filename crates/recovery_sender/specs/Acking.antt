@@ -1,5 +1,5 @@
 -- The result of an ACK frame, step by step (RFC 9002, 5.1, 5.3, 6.2.1, A.7 and B.7; RFC 9000, 13.4.2.1).
-use Rattle.std.specs.Prelude.{◌≡◌, ℕ, ◌+◌, ◌-◌, ◌≤◌, ◌||◌, ◌&&◌, ◌==◌, not, max, min, nat_lt, ◌⊎◌, Bool, true, false, List, [], ◌∷◌, length, map, Option, None, Some, IfSome, option_map, is_some, Result, Ok, Err, if◌then◌else◌}
+use Rattle.std.specs.Prelude.{◌≡◌, ℕ, ◌+◌, ◌-◌, ◌≤◌, ◌||◌, ◌&&◌, ◌==◌, not, max, min, nat_lt, ◌⊎◌, Bool, true, false, List, [], ◌∷◌, filter, length, map, Option, None, Some, IfSome, option_map, is_some, Result, Ok, Err, if◌then◌else◌}
 use Rattle.std.specs.Option.{option_and_then, option_map_or}
 use Rattle.std.specs.Vec.{vec_capacity}
 use Rattle.recovery_base.specs.declared.below.SpaceId.{SpaceId}
@@ -14,7 +14,7 @@ use Rattle.recovery_spaces.specs.Spaces.{Space, next_number_of}
 use Rattle.recovery_paths.specs.PathStates.{PathMarks}
 use Rattle.recovery_history.specs.RecoveryState.{RecoveryState}
 use Rattle.recovery_losses.specs.declared.frames.Ack.{Ack}
-use Rattle.recovery_losses.specs.Frames.{largest_of}
+use Rattle.recovery_losses.specs.Frames.{largest_of, received_at}
 use Rattle.recovery_losses.specs.Losses.{AreIncreasing, count_below, without_all}
 use Rattle.recovery_losses.specs.Variables.{ack_delay_in, heard_in, sampled_first}
 use Rattle.recovery_sender.specs.declared.sender.acks.Acknowledged.{Acknowledged}
@@ -59,6 +59,20 @@ module _ {K P M : Type 0} (recovery : RecoveryState K P M) where
   abbrev pub sent_on : SpaceId → ℕ → Option ℕ
   sent_on space number = sent_here (packet_at (packets_in recovery space) number)
 
+  -- when the largest number of a frame was sent, if it is tracked and was sent on the path in use
+  abbrev pub largest_sent_on : SpaceId → List (ℕ × ℕ) → Option ℕ
+  largest_sent_on space ranges = option_and_then (λ largest. sent_on space largest) (largest_of ranges)
+
+  -- how many of these numbers are tracked and were sent on the path in use
+  abbrev pub count_sent_on : SpaceId → List ℕ → ℕ
+  count_sent_on space numbers = length (filter (λ number. is_some (sent_on space number)) numbers)
+
+  -- with how many newly acknowledged packets ECN counts are compared, if there are any: those of another path may be
+  -- unmarked (RFC 9000, 13.4.2.1)
+  abbrev pub newly_compared : SpaceId → List ℕ → Option EcnCounts → ℕ
+  newly_compared space numbers None = 0
+  newly_compared space numbers (Some counts) = count_sent_on space numbers
+
   -- the marks of the path in use
   abbrev pub marks_now : PathMarks
   marks_now = recovery.paths.current.marks
@@ -102,30 +116,32 @@ abbrev pub is_marked : {Q : Type 0} → Answer Q → Bool
 is_marked (Flag flag) = flag
 is_marked answer = false
 
--- when the largest acknowledged number of a space was sent
-abbrev pub largest_sent : {K P M : Type 0} → RecoveryState K P M → SpaceId → Option ℕ
-largest_sent recovery space = option_map (λ here. here.largest_acked_packet_sent) (space_in recovery space)
+-- CE indicates congestion: more packets were marked, and the largest number of the frame was sent on the path in use
+-- (RFC 9002, B.7; RFC 9000, 9.4)
+abbrev pub is_congestion : {Q : Type 0} → Answer Q → Option ℕ → Bool
+is_congestion answer sent = is_marked answer && is_some sent
 
+-- `sent` is when the largest number of the frame was sent, if that was on the path in use
 module _ {F Q R C K S M P : Type 0} {f : _} {c : _} {q : _} {m : _} {r : _} (space : SpaceId) (now newly : ℕ)
-    (old new : Sender F Q R C K S M P f c q m r) where
-  -- the ECN counts are compared with those before: no change, more packets were marked, or the counts are invalid and
+    (sent : Option ℕ) (old new : Sender F Q R C K S M P f c q m r) where
+  -- the ECN counts are compared with those before and stored: no congestion, congestion, or the counts are invalid and
   -- packets are no longer marked (RFC 9000, 13.4.2.1; RFC 9002, B.7)
   abbrev pub EcnCompared : EcnCounts → EcnOutcome → Type 0
-  EcnCompared counts Quiet = (answer : Answer Q) × (is_marked answer ≡ false)
+  EcnCompared counts Quiet = (answer : Answer Q) × (is_congestion answer sent ≡ false)
       × TakesSteps (told (Ecn space newly counts) (Ok answer) ∷ []) old new
   EcnCompared counts Marked = (answer : Answer Q) × (between : Sender F Q R C K S M P f c q m r)
-      × (is_marked answer ≡ true) × TakesSteps (told (Ecn space newly counts) (Ok answer) ∷ []) old between
-      × TakesSteps (congested now false 0 (largest_sent (state_in between) space)) between new
+      × (is_congestion answer sent ≡ true) × TakesSteps (told (Ecn space newly counts) (Ok answer) ∷ []) old between
+      × TakesSteps (congested now false 0 sent) between new
   EcnCompared counts Failed = (between : Sender F Q R C K S M P f c q m r) × (refusal : Refusal)
       × TakesSteps (told (Ecn space newly counts) (Err refusal) ∷ []) old between
       × TakesSteps (unmarked (state_in between) ∷ []) between new
 
-  -- the counts are compared only on a path that sends ECN, if the frame increased the largest acknowledged number; a
-  -- frame without counts stops ECN on the path
+  -- ECN is validated only on a path that sends it, if the frame increased the largest acknowledged number: a frame
+  -- without counts stops ECN on the path, and counts are compared (RFC 9000, 13.4.2.1)
   abbrev pub EcnResult : Bool → Option EcnCounts → Bool → EcnOutcome → Type 0
   EcnResult false counts raised end = (end ≡ Quiet) × TakesSteps [] old new
-  EcnResult true None raised end = (end ≡ Quiet) × TakesSteps (unmarked (state_in old) ∷ []) old new
-  EcnResult true (Some counts) false end = (end ≡ Quiet) × TakesSteps [] old new
+  EcnResult true counts false end = (end ≡ Quiet) × TakesSteps [] old new
+  EcnResult true None true end = (end ≡ Quiet) × TakesSteps (unmarked (state_in old) ∷ []) old new
   EcnResult true (Some counts) true end = EcnCompared counts end
 
 -- ---- a frame that newly acknowledges something
@@ -135,12 +151,13 @@ module _ {F Q R C K S M P : Type 0} {f : _} {c : _} {q : _} {m : _} {r : _} (spa
 abbrev pub is_limited : {K P M : Type 0} → RecoveryState K P M → Bool → Bool
 is_limited recovery app_limited = app_limited || is_some (marks_now recovery).challenge
 
--- An RTT sample: the time since the largest number of the frame was sent, if it is newly acknowledged and was sent on
--- the path in use. A newly acknowledged packet must be ack-eliciting (RFC 9002, 5.1).
+-- An RTT sample: the time from sending the largest number of the frame to receiving the frame, if that number is newly
+-- acknowledged and was sent on the path in use. A newly acknowledged packet must be ack-eliciting (RFC 9002, 5.1).
+abbrev pub rtt_since : ℕ → Option ℕ → Bool → Option ℕ
+rtt_since received sent elicits = if elicits then option_map (λ sent. received - sent) sent else None
+
 abbrev pub rtt_of : {K P M : Type 0} → RecoveryState K P M → SpaceId → ℕ → List (ℕ × ℕ) → Bool → Option ℕ
-rtt_of recovery space now ranges elicits = if elicits then
-    option_map (λ sent. now - sent) (option_and_then (λ largest. sent_on recovery space largest) (largest_of ranges))
-    else None
+rtt_of recovery space received ranges elicits = rtt_since received (largest_sent_on recovery space ranges) elicits
 
 -- the sample is the first of the path in use (RFC 9002, 7.6.2)
 abbrev pub is_first_sample : {K P M : Type 0} → RecoveryState K P M → Option ℕ → Bool
@@ -158,16 +175,18 @@ pub record Acknowledges {F Q R C K S M P : Type 0} {f : _} {c : _} {q : _} {m : 
   pub acks : TakesSteps (acking space now (is_limited (state_in old) ack.app_limited) acked.numbers.items) old taken
   pub ends : TakesSteps (occurs (EndAcks now (is_limited (state_in old) ack.app_limited)
       (largest_in (state_in taken) space)) ∷ []) taken ended
-  -- the RTT is sampled, losses are detected, and the ECN counts compared
-  pub samples : SamplesRtt space ack.delay ended sampled (rtt_of (state_in old) space now ranges elicits)
-  pub rtt : acked.rtt ≡ rtt_of (state_in old) space now ranges elicits
-  pub detects : DetectsLosses space now true sampled acked.losses looked
-  pub compares : EcnResult space now (length acked.numbers.items) looked heard
-      (marks_now (state_in looked)).sending_ecn ack.ecn
+  -- the RTT is sampled and losses are detected, both by the time at which the frame was received (RFC 9002, 5.3); the
+  -- ECN counts are compared
+  pub samples : SamplesRtt space ack.delay ended sampled
+      (rtt_of (state_in old) space (received_at ack now) ranges elicits)
+  pub rtt : acked.rtt ≡ rtt_of (state_in old) space (received_at ack now) ranges elicits
+  pub detects : DetectsLosses space now (received_at ack now) true sampled acked.losses looked
+  pub compares : EcnResult space now (newly_compared (state_in old) space acked.numbers.items ack.ecn)
+      (largest_sent_on (state_in old) space ranges) looked heard (marks_now (state_in looked)).sending_ecn ack.ecn
       (is_raised (largest_in (state_in old) space) (largest_in (state_in looked) space)) acked.ecn
   -- the count of probe timeouts is reset, and the timer is set
   pub does : CompletesCall [] (heard_in space now (sampled_first (is_first_sample (state_in old)
-      (rtt_of (state_in old) space now ranges elicits)) now old.variables)) heard new
+      (rtt_of (state_in old) space (received_at ack now) ranges elicits)) now old.variables)) heard new
   -- persistent congestion results in the smallest window, for every controller (RFC 9002, 7.6.2)
   pub least : acked.losses.is_persistent ≡ true → IsWindowLeast c.words (state_in new)
 
@@ -220,7 +239,7 @@ module _ {F Q R C K S M P : Type 0} {f : _} {c : _} {q : _} {m : _} {r : _} (spa
     pub newly : AreNewlyAcked (packets_in (state_in old) space) ranges 0 acked.numbers.items elicits
     -- by the events before it
     pub tracked : ForEveryPast old (AcksTracked space ranges acked.numbers.items)
-    pub sampled : ForEveryPast old (SamplesByPast space now ranges acked.numbers.items acked.rtt)
+    pub sampled : ForEveryPast old (SamplesByPast space (received_at ack now) ranges acked.numbers.items acked.rtt)
     pub none : acked.numbers.items ≡ [] → HasNoneNewlyAcked acked
     pub some : (acked.numbers.items ≡ [] → ⊥) → Acknowledges space now ranges ack elicits old acked new
 

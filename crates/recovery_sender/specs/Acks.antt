@@ -86,6 +86,7 @@ AckChecked space ranges recovery (Ok done) =
     IsAckWellFormed space ranges recovery × WereSent space ranges recovery × AreNotSkipped space ranges recovery
 AckChecked space ranges recovery (Err refused.Unsent) =
     IsAckWellFormed space ranges recovery × (WereSent space ranges recovery → ⊥)
+AckChecked space ranges recovery (Err refused.DataSpace) = ⊥
 AckChecked space ranges recovery (Err (refused.Event refusal)) =
     (is_discarded space (state_of recovery).discarded ≡ true) × (refusal ≡ SpaceDiscarded)
     ⊎ ((is_discarded space (state_of recovery).discarded ≡ false) × (are_ranges ranges ≡ false) × (refusal ≡ BadRange)

@@ -10,7 +10,7 @@ use Rattle.recovery_paths.specs.declared.path_pair.PathName.TheVariants.{Current
 use Rattle.recovery_sender.specs.RetransmitAll.{DeclaresAllLost}
 use Rattle.recovery_sender.specs.Acking.{AckResult, IsNewly}
 use Rattle.recovery_losses.specs.Variables.{begun_anew, is_probe_due}
-use Rattle.recovery_sender.specs.Calls.{ChangesRtt, bytes_in_flight, challenged, datagram_reply, discard_reply, is_checked, transmit_reply, transmit_steps, window_of, IsPassedThrough, EventResult, ProbeResult}
+use Rattle.recovery_sender.specs.Calls.{ChangesRtt, PermitsAckAlone, after_transmit, bytes_in_flight, challenged, datagram_reply, discard_reply, is_checked, transmit_steps, window_of, IsTransmissionReply, IsPassedThrough, EventResult, ProbeResult}
 use Rattle.recovery_sender.specs.Promises.Pasts.{ForEveryRun}
 use Rattle.recovery_sender.specs.Promises.Window.{FitsWindow, IsByRoom}
 use Rattle.recovery_sender.specs.Senders.{state_in}
@@ -37,9 +37,8 @@ module _ {F Q R C K S M P : Type 0} {f : _} {c : _} {q : _} {m : _} {r : _} (old
     -- a datagram may be sent, or not: what counts in flight fits into the window, if no probe is due (RFC 9002, 7; RFC
     -- 9000, 8.1)
     pub record TransmitCall (datagram : Datagram) (reply : Result Transmission SenderError) : Type 0 where
-      pub is : reply
-          ≡ transmit_reply c.words (state_in old) old.variables datagram.now datagram.bytes datagram.space
-          datagram.in_flight
+      pub is : IsTransmissionReply c.words (state_in old) old.variables datagram.now datagram.bytes datagram.space
+          datagram.in_flight reply
       pub window : reply ≡ Ok Transmitted → datagram.in_flight ≡ true
           → is_probe_due old.variables datagram.space ≡ false
           → bytes_in_flight (state_in old) + datagram.bytes ≤ window_of c.words (state_in old)
@@ -47,7 +46,10 @@ module _ {F Q R C K S M P : Type 0} {f : _} {c : _} {q : _} {m : _} {r : _} (old
       pub fits : IfOk reply (λ sent. ForEveryRun old (λ beginning past. IsByRoom
           (is_checked old.variables datagram.space datagram.in_flight) (FitsWindow beginning past datagram.bytes) sent))
       pub steps : IfOk reply (λ sent. CompletesCall (transmit_steps datagram.now datagram.bytes
-          (is_checked old.variables datagram.space datagram.in_flight) sent) old.variables old new)
+          (is_checked old.variables datagram.space datagram.in_flight) sent)
+          (after_transmit datagram.now datagram.space datagram.in_flight sent old.variables) old new)
+      -- if it has to wait, an ACK alone of its size need not
+      pub alone : IfOk reply (λ sent. PermitsAckAlone (state_in new) datagram.space datagram.bytes sent)
       pub stays : OnErr reply (new ≡ old)
 
     -- one event is applied, with these variables after it; or it fails with this error, and nothing changes

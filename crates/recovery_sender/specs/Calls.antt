@@ -1,8 +1,10 @@
 -- The calls other than ACK frames and losses, by the state before them (RFC 9002, A.5, A.9 and A.11).
-use Rattle.std.specs.Prelude.{◌≡◌, ℕ, ◌+◌, ◌-◌, ◌||◌, ◌&&◌, not, nat_lt, nat_le, Bool, true, false, Option, None, Some, Result, Ok, Err, List, [], ◌∷◌, if◌then◌else◌}
+use Rattle.std.specs.Prelude.{◌≡◌, ◌<◌, ℕ, ◌+◌, ◌-◌, ◌||◌, ◌&&◌, not, nat_lt, nat_le, Decides, Bool, true, false, Option, None, Some, Result, Ok, Err, List, [], ◌∷◌, if◌then◌else◌}
 use Rattle.std.specs.Option.{option_and_then}
 use Rattle.recovery_base.specs.declared.below.SpaceId.{SpaceId}
 use Rattle.recovery_base.specs.declared.timer.Timer.TheVariants.{LossDetection}
+use Rattle.recovery_acks.specs.Acks.{CanSend}
+use Rattle.recovery_base.specs.Spaces.{same_space}
 use Rattle.recovery_base.specs.Units.{u64_limit}
 use Rattle.recovery_congestion.specs.Controllers.{ControllerSemantics}
 use Rattle.recovery_events.specs.declared.event.Answer.{Answer}
@@ -13,6 +15,7 @@ use Rattle.recovery_events.specs.declared.event.Refusal.TheVariants.{NoMemory, S
 use Rattle.rand_core.specs.Stream.{Stream}
 use Rattle.recovery_spaces.specs.Discarded.{is_discarded}
 use Rattle.recovery_spaces.specs.Paths.{counters_of}
+use Rattle.recovery_spaces.specs.Spaces.{Space}
 use Rattle.recovery_paths.specs.PathLog.{paths_marks}
 use Rattle.recovery_paths.specs.PathStates.{PathMarks, is_blocked, path_delay}
 use Rattle.recovery_history.specs.declared.config.RecoveryConfig.{RecoveryConfig}
@@ -29,9 +32,12 @@ use Rattle.recovery_losses.specs.declared.variables.Side.{Side}
 use Rattle.recovery_losses.specs.declared.due.Due.{Due}
 use Rattle.recovery_losses.specs.declared.due.Due.TheVariants.{Losses, Probes, AntiDeadlock}
 use Rattle.recovery_losses.specs.declared.variables.Variables.{Variables}
-use Rattle.recovery_losses.specs.Variables.{based, fresh, is_server, is_probe_due, probed, thresholds_of}
+use Rattle.recovery_losses.specs.Variables.{based, found_full, found_room, fresh, is_server, is_probe_due, probed, thresholds_of}
 use Rattle.recovery_losses.specs.declared.thresholds.Thresholds.{Thresholds}
+use Rattle.recovery_sender.specs.PathChanges.{IsFailedEvent, IsPathPermitted, is_decided, path_steps}
+use Rattle.recovery_sender.specs.Promises.KeepsValidated.{KeepsValidated}
 use Rattle.recovery_sender.specs.Senders.{state_in}
+use Rattle.recovery_sender.specs.Spaces.{space_in}
 use Rattle.recovery_base.specs.declared.below.SpaceId.TheVariants.{Initial, Handshake, Data}
 use Rattle.recovery_sender.specs.Losses.{IsNextLoss}
 use Rattle.recovery_sender.specs.Steps.{SenderStep, loss_time, told, TakesSteps, CompletesCall}
@@ -48,10 +54,15 @@ challenged recovery challenge pending =
 
 -- ---- whether a datagram may be sent (RFC 9002, 7; RFC 9000, 8.1)
 
+-- an ACK of the space is required at once (RFC 9000, 13.2.1)
+abbrev pub IsAckRequired : {K P M : Type 0} → RecoveryState K P M → SpaceId → Type 0
+IsAckRequired {K} {P} {M} recovery space =
+    (here : Space P M) × (space_in recovery space ≡ Some here) × CanSend here.pending_acks
+
 -- it may, unless the pacer delays it (RFC 9002, 7.7)
-abbrev pub paced_to : Option ℕ → Transmission
-paced_to None = Transmitted
-paced_to (Some until) = Delayed until
+abbrev pub paced_to : Bool → Option ℕ → Transmission
+paced_to ack None = Transmitted
+paced_to ack (Some until) = Delayed until ack
 
 module _ {K P M : Type 0} (recovery : RecoveryState K P M) where
   -- the bytes in flight on the path in use (RFC 9002, B.2)
@@ -67,28 +78,56 @@ module _ {K P M : Type 0} (words : ControllerSemantics K) (recovery : RecoverySt
   abbrev pub is_full : ℕ → Bool
   is_full bytes = nat_lt window_of (bytes_in_flight recovery + bytes)
 
-  -- the amplification limit is checked first, then the window, then the pacer
-  abbrev pub transmission : ℕ → ℕ → Bool → Transmission
-  transmission now bytes checked =
+  -- The amplification limit is checked first, then the window, then the pacer. A datagram that must wait for one of
+  -- these two reports whether an ACK is required, which need not wait (RFC 9002, 7 and 7.7).
+  abbrev pub transmission : ℕ → ℕ → (checked ack : Bool) → Transmission
+  transmission now bytes checked ack =
       let path = recovery.paths.current.state in
       if is_blocked path bytes then Blocked
-      else if checked then (if is_full bytes then Full else paced_to (path_delay words now bytes path))
+      else if checked then (if is_full bytes then Full ack else paced_to ack (path_delay words now bytes path))
       else Transmitted
 
   -- errors: first a discarded space, then bytes that exceed the total of the path
-  abbrev pub transmit_reply : Variables → ℕ → ℕ → SpaceId → Bool → Result Transmission SenderError
-  transmit_reply variables now bytes space in_flight =
+  abbrev pub transmit_reply : Variables → ℕ → ℕ → SpaceId → (in_flight ack : Bool) → Result Transmission SenderError
+  transmit_reply variables now bytes space in_flight ack =
       if is_discarded space recovery.discarded then Err (refused.Event SpaceDiscarded)
       else if nat_lt (recovery.paths.current.state.total_sent + bytes) u64_limit
-      then Ok (transmission now bytes (is_checked variables space in_flight))
+      then Ok (transmission now bytes (is_checked variables space in_flight) ack)
       else Err (refused.Event Overflow)
+
+  -- the reply, by whether an ACK is required
+  abbrev pub IsTransmissionReply : Variables → ℕ → ℕ → SpaceId → Bool → Result Transmission SenderError → Type 0
+  IsTransmissionReply variables now bytes space in_flight reply = (ack : Bool)
+      × Decides ack (IsAckRequired recovery space)
+      × (reply ≡ transmit_reply variables now bytes space in_flight ack)
 
 -- the recovery takes an event for what limit and window permit
 abbrev pub transmit_steps : {Q S M P : Type 0} → ℕ → ℕ → Bool → Transmission → List (SenderStep Q S M P)
 transmit_steps now bytes checked Transmitted = told (events.Transmit now bytes checked) (Ok answers.Transmitted) ∷ []
-transmit_steps now bytes checked (Delayed until) =
+transmit_steps now bytes checked (Delayed until ack) =
     told (events.Transmit now bytes checked) (Ok (answers.Delayed until)) ∷ []
 transmit_steps now bytes checked other = []
+
+-- what does not count in flight may be sent: the space has keys, and the amplification limit permits it (RFC 9000, 8.1)
+pub record PermitsAlone {K P M : Type 0} (recovery : RecoveryState K P M) (space : SpaceId) (bytes : ℕ) : Type 0 where
+  pub keys : is_discarded space recovery.discarded ≡ false
+  pub total : recovery.paths.current.state.total_sent + bytes < u64_limit
+  pub limit : is_blocked recovery.paths.current.state bytes ≡ false
+
+-- so it is after a datagram of this size that the window or the pacer holds back: an ACK alone need not wait (RFC 9002,
+-- 7 and 7.7)
+abbrev pub PermitsAckAlone : {K P M : Type 0} → RecoveryState K P M → SpaceId → ℕ → Transmission → Type 0
+PermitsAckAlone recovery space bytes (Full ack) = PermitsAlone recovery space bytes
+PermitsAckAlone recovery space bytes (Delayed until ack) = PermitsAlone recovery space bytes
+PermitsAckAlone recovery space bytes sent = Unit {0}
+
+-- Whether a packet of the space waits for room in the window: one that counts in flight does since it was first `Full`,
+-- and no longer once there was room.
+abbrev pub after_transmit : ℕ → SpaceId → (in_flight : Bool) → Transmission → Variables → Variables
+after_transmit now space true (Full ack) variables = found_full space now variables
+after_transmit now space true Transmitted variables = found_room space variables
+after_transmit now space true (Delayed until ack) variables = found_room space variables
+after_transmit now space in_flight sent variables = variables
 
 -- ---- calls that are one event
 
@@ -141,10 +180,11 @@ abbrev pub after_event : {Q S M P : Type 0} → Event Q S M P → Answer Q → V
 after_event event answer variables =
     probed (sent_in (elicits_in event) answer) (based (sent_at (to_send event) answer) variables)
 
--- a discarded space is an error (RFC 9002, 6.4)
+-- the space of 1-RTT packets is never discarded (RFC 9001, 4.9; RFC 9002, A.11), and no space twice (RFC 9002, 6.4)
 abbrev pub discard_reply : {K P M : Type 0} → RecoveryState K P M → SpaceId → Result (Unit {0}) SenderError
 discard_reply recovery space =
-    if is_discarded space recovery.discarded then Err (refused.Event SpaceDiscarded) else Ok (tt {0})
+    if same_space space Data then Err refused.DataSpace
+    else if is_discarded space recovery.discarded then Err (refused.Event SpaceDiscarded) else Ok (tt {0})
 
 -- an event that resets the RTT of the path in use
 abbrev pub forgets_rtt : {Q S M P : Type 0} → Event Q S M P → Bool
@@ -184,16 +224,18 @@ pub record ChangesRtt {F Q R C K S M P : Type 0} {f : _} {c : _} {q : _} {m : _}
 
 module _ {F Q R C K S M P : Type 0} {f : _} {c : _} {q : _} {m : _} {r : _} (event : Event Q S M P)
     (old new : Sender F Q R C K S M P f c q m r) where
-  -- the path in use is another, or is reset: the loss times follow from its RTT
+  -- the path in use is another, or is reset: the loss times follow from its RTT, and a validated path is kept
   pub record ChangesPath (answer : Answer Q) : Type 0 where
     pub between : Sender F Q R C K S M P f c q m r
-    pub goes : TakesSteps (told event (Ok answer) ∷ []) old between
+    pub permitted : IsPathPermitted event (state_in old)
+    pub goes : TakesSteps (path_steps (state_in old) old.variables.side event answer) old between
     pub renews : ChangesRtt (on_other_path event between.variables) between new
+    pub keeps : KeepsValidated old new event
 
   abbrev pub PathEventResult : Result (Answer Q) SenderError → Type 0
   PathEventResult (Ok answer) = ChangesPath answer
-  PathEventResult (Err (refused.Event refusal)) = TakesSteps (told event (Err refusal) ∷ []) old new
-  PathEventResult (Err refused.Unsent) = ⊥
+  PathEventResult (Err (refused.Event refusal)) = IsFailedEvent event old new refusal (is_decided event (state_in old))
+  PathEventResult (Err other) = ⊥
 
 module _ {F Q R C K S M P : Type 0} {f : _} {c : _} {q : _} {m : _} {r : _} (event : Event Q S M P)
     (old new : Sender F Q R C K S M P f c q m r) where
@@ -207,8 +249,8 @@ module _ {F Q R C K S M P : Type 0} {f : _} {c : _} {q : _} {m : _} {r : _} (eve
   -- or the event fails with this error, and the rest is unchanged
   abbrev pub IsEventResult : Result (Answer Q) SenderError → Type 0
   IsEventResult (Ok answer) = IsAnsweredEvent answer (changes_path event)
-  IsEventResult (Err (refused.Event refusal)) = TakesSteps (told event (Err refusal) ∷ []) old new
-  IsEventResult (Err refused.Unsent) = ⊥
+  IsEventResult (Err (refused.Event refusal)) = IsFailedEvent event old new refusal (is_decided event (state_in old))
+  IsEventResult (Err other) = ⊥
 
 -- this holds for an event that passes, as it takes effect
 abbrev pub EventResult : {F Q R C K S M P : Type 0} {f : _} {c : _} {q : _} {m : _} {r : _} → Event Q S M P

@@ -116,12 +116,12 @@ pub record PassResult {P M : Type 0} (look : LossPass) (packets : Packets P M) (
     -- if nothing was declared lost, no black hole is reported
     pub black_hole : losses.numbers.items ≡ [] → losses.is_black_hole ≡ false
 
--- the events of a pass, in order (RFC 9002, A.10; RFC 9000, 14.4)
-abbrev pub detecting : {Q S M P : Type 0} → LossPass → List LossAttempt → Option ℕ → Losses → ℕ → Option ℕ
+-- the events of a pass made at `now`, in order (RFC 9002, A.10; RFC 9000, 14.4)
+abbrev pub detecting : {Q S M P : Type 0} → LossPass → ℕ → List LossAttempt → Option ℕ → Losses → ℕ → Option ℕ
     → Option ℕ → List (SenderStep Q S M P)
-detecting look attempts found losses bytes sent time = trying look.space attempts
-    ++ (ended look.at losses.is_black_hole losses.numbers.items
-    ++ (congested look.at losses.is_persistent bytes sent
+detecting look now attempts found losses bytes sent time = trying look.space attempts
+    ++ (ended now losses.is_black_hole losses.numbers.items
+    ++ (congested now losses.is_persistent bytes sent
     ++ (trying look.space (probe_attempts found losses.probe) ++ loss_time look.space time ∷ [])))
 
 -- nothing was acknowledged, or nothing is tracked below the largest acknowledged
@@ -129,21 +129,21 @@ abbrev pub HasNoGap : {K P M : Type 0} → RecoveryState K P M → SpaceId → T
 HasNoGap {K} {P} {M} recovery space = (largest : ℕ) → largest_in recovery space ≡ Some largest → (number : ℕ)
     (packet : Packet P M) → packet_at (packets_in recovery space) number ≡ Some packet → number < largest → ⊥
 
--- the pass over a space, with these losses
-pub record DetectsLosses {F Q R C K S M P : Type 0} {f : _} {c : _} {q : _} {m : _} {r : _} (space : SpaceId) (now : ℕ)
-    (due_to_ack : Bool) (old : Sender F Q R C K S M P f c q m r) (losses : Losses)
+-- the pass over a space that is made at `now` and judges age by the time `at`, with these losses
+pub record DetectsLosses {F Q R C K S M P : Type 0} {f : _} {c : _} {q : _} {m : _} {r : _} (space : SpaceId)
+    (now at : ℕ) (due_to_ack : Bool) (old : Sender F Q R C K S M P f c q m r) (losses : Losses)
     (new : Sender F Q R C K S M P f c q m r) : Type 0 where
   pub looks : (largest : ℕ) → largest_in (state_in old) space ≡ Some largest →
-      (let look : LossPass = look_of (state_in old) old.variables space now due_to_ack largest in
+      (let look : LossPass = look_of (state_in old) old.variables space at due_to_ack largest in
       let packets = packets_in (state_in old) space in
       (attempts : List LossAttempt) × (time : Option ℕ)
       × (result : PassResult look packets attempts losses time) × ForEveryPast old (LosesTracked look losses time)
-      × TakesSteps (detecting look attempts result.found losses
+      × TakesSteps (detecting look now attempts result.found losses
       (min (bytes_counted look packets losses.numbers.items) largest_u64)
       (last_counted look packets losses.numbers.items) time) old new)
   pub none : largest_in (state_in old) space ≡ None
       → IsEmptyLosses losses × TakesSteps (loss_time space None ∷ []) old new
   -- persistent congestion is reported only with cause, by the events so far (RFC 9002, 7.6)
   pub persists : (largest : ℕ) → largest_in (state_in old) space ≡ Some largest
-      → ForEveryExplainedPast old (PersistsByEvents (look_of (state_in old) old.variables space now due_to_ack largest)
+      → ForEveryExplainedPast old (PersistsByEvents (look_of (state_in old) old.variables space at due_to_ack largest)
       losses old.variables.sampled)

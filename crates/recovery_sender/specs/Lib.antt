@@ -7,6 +7,7 @@ pub mod Calls
 pub mod Detection
 pub mod Established
 pub mod Losses
+pub mod PathChanges
 pub mod Promises
 pub mod Readings
 pub mod RetransmitAll

@@ -47,12 +47,12 @@ IsNextLoss recovery variables space time = (sent : Option ℕ)
     → IsEarliestSent (packets_in recovery space) largest sent)
     × (largest_in recovery space ≡ None → sent ≡ None)
 
--- the inputs of a pass over a space with this largest acknowledged number; only a pass after an ACK detects persistent
--- congestion
+-- the inputs of a pass over a space with this largest acknowledged number, which judges age by the time `at`; only a
+-- pass after an ACK detects persistent congestion
 abbrev pub look_of : {K P M : Type 0} → RecoveryState K P M → Variables → SpaceId → ℕ → Bool → ℕ → LossPass
-look_of recovery variables space now due_to_ack largest = let path = recovery.paths.current in record {
+look_of recovery variables space at due_to_ack largest = let path = recovery.paths.current in record {
   space = space;
-  at = now;
+  at = at;
   largest = largest;
   packet_threshold = variables.thresholds.packets;
   delay = loss_delay_in recovery variables;

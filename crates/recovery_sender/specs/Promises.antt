@@ -1,10 +1,12 @@
 pub mod Acked
 pub mod Amplification
 pub mod Extended
+pub mod KeepsValidated
 pub mod Liveness
 pub mod Lost
 pub mod Pasts
 pub mod Persistent
 pub mod RttSampled
 pub mod Samples
+pub mod Waiting
 pub mod Window

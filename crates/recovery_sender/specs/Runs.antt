@@ -5,6 +5,7 @@ use Rattle.recovery_base.specs.Timers.{moment}
 use Rattle.recovery_base.specs.declared.timer.Timer.TheVariants.{LossDetection}
 use Rattle.recovery_history.specs.declared.config.RecoveryConfig.{RecoveryConfig}
 use Rattle.recovery_sender.specs.Calls.{IsNewSender}
+use Rattle.recovery_sender.specs.Promises.Waiting.{WaitsByAnswers}
 use Rattle.recovery_sender.specs.Senders.{state_in}
 use Rattle.recovery_sender.specs.declared.sender.Sender.{Sender}
 use Rattle.recovery_losses.specs.declared.variables.Side.{Side}
@@ -43,6 +44,7 @@ module _ {F Q R C K S M P : Type 0} {f : _} {c : _} {q : _} {m : _} {r : _} wher
     pub given : AreGiven calls
     pub taken : IsTaken said
     pub runs : RunsCalls calls said old new
+    pub waits : WaitsByAnswers calls said old new
 
   -- the calls of a list, from a new sender
   pub record IsRun (side : Side) (config : RecoveryConfig F) (start : ℕ) (random : Stream) (calls : List (Call Q S M P))
@@ -50,3 +52,5 @@ module _ {F Q R C K S M P : Type 0} {f : _} {c : _} {q : _} {m : _} {r : _} wher
     pub first : Sender F Q R C K S M P f c q m r
     pub begins : IsNewSender side config start random first
     pub runs : RunsCalls calls said first new
+    -- since when a handshake space waits for room in the window
+    pub waits : WaitsByAnswers calls said first new

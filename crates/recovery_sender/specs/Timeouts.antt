@@ -28,7 +28,7 @@ module _ {F Q R C K S M P : Type 0} {f : _} {c : _} {q : _} {m : _} {r : _} wher
   pub record DetectsByTime (space : SpaceId) (now : ℕ) (old : Sender F Q R C K S M P f c q m r) (losses : Losses)
       (new : Sender F Q R C K S M P f c q m r) : Type 0 where
     pub behind : Sender F Q R C K S M P f c q m r
-    pub detects : DetectsLosses space now false old losses behind
+    pub detects : DetectsLosses space now now false old losses behind
     pub does : CompletesCall [] (record old.variables { base = now }) behind new
 
   -- the pass is made, or there is no room for the numbers that may be lost: then nothing changes

@@ -13,7 +13,8 @@ use Rattle.recovery_spaces.specs.Discarded.{is_discarded}
 use Rattle.recovery_spaces.specs.Packets.{Packets}
 use Rattle.recovery_spaces.specs.Spaces.{Space, packets_of}
 use Rattle.recovery_losses.specs.Due.{sooner}
-use Rattle.recovery_losses.specs.Variables.{is_address_validated, pto_by}
+use Rattle.recovery_losses.specs.Timeouts.{probe_start_of}
+use Rattle.recovery_losses.specs.Variables.{is_address_validated, pto_by, waiting_since}
 use Rattle.recovery_paths.specs.PathStates.{is_blocked}
 use Rattle.recovery_history.specs.RecoveryState.{RecoveryState}
 use Rattle.recovery_losses.specs.declared.due.Due.{Due}
@@ -68,12 +69,12 @@ module _ {K P M : Type 0} (recovery : RecoveryState K P M) (variables : Variable
   abbrev pub waits : SpaceId → Bool
   waits space = same_space space Data && not variables.is_handshake_confirmed
 
-  -- if a tracked packet is ack-eliciting: a probe timeout after the last ack-eliciting packet was sent
+  -- a probe timeout after the last ack-eliciting packet was sent, if one is tracked; or after a packet began to wait
+  -- for room in the window, which the peer may be unable to make before it gets that packet
   abbrev pub probe_in : SpaceId → Space P M → Option (ℕ × Due)
-  probe_in space here = if has_eliciting (packets_of here)
-      then option_map (λ sent. (behind sent (pto_of recovery variables space), Probes space))
-      here.time_of_last_ack_eliciting_packet
-      else None
+  probe_in space here = option_map (λ start. (behind start (pto_of recovery variables space), Probes space))
+      (probe_start_of (has_eliciting (packets_of here)) (waiting_since variables space)
+      here.time_of_last_ack_eliciting_packet)
 
   abbrev pub probe_due : SpaceId → Option (ℕ × Due)
   probe_due space = if waits space then None else option_and_then (probe_in space) (space_in recovery space)
@@ -89,19 +90,11 @@ module _ {K P M : Type 0} (recovery : RecoveryState K P M) (variables : Variable
   tracks_eliciting space =
       option_map_or (λ here. has_eliciting (packets_of here)) (space_in recovery space) false
 
-  -- A client may wait for a server that must not send (RFC 9002, 6.2.2.1). Or, until the handshake is confirmed, 1-RTT
-  -- packets for which nobody probes fill the window, while the handshake has packets to send.
-  abbrev pub may_deadlock : Bool
-  may_deadlock = not (is_address_validated variables)
-      || (not variables.is_handshake_confirmed && tracks_eliciting Data)
-
-  -- a probe timeout after the anti-deadlock timer was started
-  abbrev pub deadlock_by : Bool → Option (ℕ × Due)
-  deadlock_by may = if not may || is_discarded deadlock_space recovery.discarded then None
-      else Some (behind variables.base (pto_of recovery variables deadlock_space), AntiDeadlock deadlock_space)
-
+  -- A probe timeout after the anti-deadlock timer was started, at a client that does not know its address validated: it
+  -- may wait for a server that must not send (RFC 9002, 6.2.2.1).
   abbrev pub deadlock_due : Option (ℕ × Due)
-  deadlock_due = deadlock_by may_deadlock
+  deadlock_due = if is_address_validated variables || is_discarded deadlock_space recovery.discarded then None
+      else Some (behind variables.base (pto_of recovery variables deadlock_space), AntiDeadlock deadlock_space)
 
   -- probes are due, and a deadlock is to be ended, while the path in use may send a datagram (RFC 9000, 8.1; RFC 9002,
   -- 6.2.2.1)

@@ -22,6 +22,7 @@ mod frequent;
 mod handshake;
 mod losses;
 mod packets;
+mod paths;
 mod probes;
 mod readings;
 mod timer;
@@ -43,6 +44,9 @@ pub enum SenderError {
     /// A packet number was acknowledged that was never sent (RFC 9000, 13.1).
     #[error("a number was acknowledged that was never sent")]
     Unsent,
+    /// The space of 1-RTT packets is never discarded (RFC 9001, 4.9; RFC 9002, A.11).
+    #[error("the space of 1-RTT packets is never discarded")]
+    DataSpace,
 }
 
 impl From<Refusal> for SenderError {

@@ -11,7 +11,7 @@ use Rattle.recovery_sender.specs.declared.sender.packets.Transmission.TheVariant
 -- if the window is checked, a datagram is sent or delayed only if it fits; it is `Full` only if it is checked and does
 -- not fit
 abbrev pub IsByRoom : Bool → Type 0 → Transmission → Type 0
-IsByRoom checked Fits Full = (checked ≡ true) × ¬ Fits
+IsByRoom checked Fits (Full ack) = (checked ≡ true) × ¬ Fits
 IsByRoom checked Fits Blocked = Unit {0}
 IsByRoom checked Fits sent = checked ≡ true → Fits
 

@@ -11,7 +11,7 @@ ghost use Rattle.recovery_sender.specs.Losses.{largest_in};
 ghost use Rattle.recovery_sender.specs.Promises.Samples.{IsMarkable};
 ghost use Rattle.recovery_sender.specs.Senders.{state_in};
 ghost use Rattle.recovery_sender.specs.Spaces.{packets_in, space_in};
-ghost use Rattle.recovery_sender.specs.Acking.{IsNewly, AckResult, AreAcked, HasRoomForLosses, ProcessesNewlyAcked, acking, first_marked, is_first_sample, is_limited, is_marked, is_raised, largest_sent, loss_end, marks_now, rtt_of, sent_on, unmarked, with_marks_now, Acknowledges, EcnCompared, EcnResult, SamplesRtt};
+ghost use Rattle.recovery_sender.specs.Acking.{IsNewly, AckResult, AreAcked, HasRoomForLosses, ProcessesNewlyAcked, acking, count_sent_on, first_marked, is_congestion, is_first_sample, is_limited, is_marked, is_raised, largest_sent_on, loss_end, marks_now, newly_compared, rtt_since, sent_on, unmarked, with_marks_now, Acknowledges, EcnCompared, EcnResult, SamplesRtt};
 ghost use Rattle.recovery_sender.specs.Steps.{marked, occurs, CompletesCall, TakesSteps};
 ghost use Rattle.recovery_spaces.specs.Packets.{packet_at};
 
@@ -33,10 +33,11 @@ use std::alloc::Global;
 /// The outcome of a frame's ECN counts (RFC 9000, 13.4.2.1).
 #[derive(Clone, Copy)]
 pub enum EcnOutcome {
-    /// No congestion. If the frame newly acknowledges packets and has no counts, packets are no longer marked on the
-    /// path.
+    /// No congestion. If the frame increased the largest acknowledged number and has no counts, packets are no longer
+    /// marked on the path.
     Quiet,
-    /// More packets were marked with CE: congestion (RFC 9002, 7.1).
+    /// More packets were marked with CE, and the largest number of the frame was sent on the path in use: congestion
+    /// (RFC 9002, 7.1; RFC 9000, 9.4).
     Marked,
     /// Validation failed: packets are no longer marked on the path.
     Failed,
@@ -98,6 +99,26 @@ fn is_marked<Q>(answer: &Answer<Q>) -> bool
         Answer::Flag(is_marked) => *is_marked,
         _ => false,
     }
+}
+
+/// Returns the time from sending the largest number of a frame to receiving the frame, if it is an RTT sample (RFC
+/// 9002, 5.1). `sent` is when that number was sent, if that was on the path in use.
+#[inline(always)]
+fn rtt_since(received: Instant, sent: &Option<Instant>, elicits: bool) -> Option<Duration>
+    ensures { result ≡ rtt_since received sent.now elicits }
+{
+    match sent {
+        Some(sent) if elicits => Some(received - *sent),
+        _ => None,
+    }
+}
+
+/// Returns whether CE indicates congestion: an answer reports newly marked packets, and the largest number of the frame
+/// was sent on the path in use.
+fn is_congestion<Q>(answer: &Answer<Q>, sent: &Option<Instant>) -> bool
+    ensures { result ≡ is_congestion answer.now sent.now }
+{
+    is_marked(answer) && sent.is_some()
 }
 
 /// Appends the numbers of the packets that are tracked in a range. Fails with `NoMemory`.
@@ -444,30 +465,33 @@ where
         );
     }
 
-    /// Processes the ECN counts of a frame (RFC 9002, A.7 and B.7; RFC 9000, 13.4.2.1).
+    /// Processes the ECN counts of a frame, or that it has none (RFC 9002, A.7 and B.7; RFC 9000, 13.4.2.1). `sent` is
+    /// when its largest number was sent, if that was on the path in use.
     #[inline(always)]
     fn process_ecn(
         &mut self,
         space: SpaceId,
         now: Instant,
         newly_acked: u64,
+        sent: Option<Instant>,
         counts: Option<EcnCounts>,
         is_raised: bool,
     ) -> EcnOutcome
-        ensures { EcnResult space now newly_acked self.old self.new
+        ensures { EcnResult space now newly_acked sent self.old self.new
             (marks_now (state_in self.old)).sending_ecn counts is_raised result }
     {
         if !self.path().sending_ecn {
+            return EcnOutcome::Quiet;
+        }
+        // A reordered frame must not end ECN.
+        if !is_raised {
             return EcnOutcome::Quiet;
         }
         let Some(counts) = counts else {
             self.stop_ecn();
             return EcnOutcome::Quiet;
         };
-        if !is_raised {
-            return EcnOutcome::Quiet;
-        }
-        self.compare_ecn(space, now, newly_acked, counts)
+        self.compare_ecn(space, now, newly_acked, sent, counts)
     }
 
     /// Compares the ECN counts with those before.
@@ -477,9 +501,10 @@ where
         space: SpaceId,
         now: Instant,
         newly_acked: u64,
+        sent: Option<Instant>,
         counts: EcnCounts,
     ) -> EcnOutcome
-        ensures { EcnCompared space now newly_acked self.old self.new counts result }
+        ensures { EcnCompared space now newly_acked sent self.old self.new counts result }
     {
         let Ok(answer) = self.apply(Event::Ecn {
             space,
@@ -489,20 +514,11 @@ where
             self.stop_ecn();
             return EcnOutcome::Failed;
         };
-        if !is_marked(&answer) {
+        if !is_congestion(&answer, &sent) {
             return EcnOutcome::Quiet;
         }
-        let sent = self.largest_acked_sent(space);
         self.congested(now, sent, false, 0);
         EcnOutcome::Marked
-    }
-
-    /// Returns when the largest acknowledged number of a space was sent.
-    fn largest_acked_sent(&self, space: SpaceId) -> Option<Instant>
-        ensures { result ≡ largest_sent (state_in self.now) space }
-    {
-        let here = self.space(space)?;
-        Some(here.largest_acked_packet_sent)
     }
 
     /// Returns the largest number acknowledged in a space, if any.
@@ -512,22 +528,39 @@ where
         self.space(space)?.largest_acked_packet
     }
 
-    /// Returns the time since the largest number of a frame was sent, if it is an RTT sample (RFC 9002, 5.1).
+    /// Returns when the largest number of a frame was sent, if it is tracked and was sent on the path in use (RFC 9000,
+    /// 9.4).
     #[inline(always)]
-    fn rtt_of(
-        &self,
-        space: SpaceId,
-        now: Instant,
-        ranges: &[(u64, u64)],
-        elicits: bool,
-    ) -> Option<Duration>
-        ensures { result ≡ rtt_of (state_in self.now) space now ranges.now elicits }
+    fn largest_sent_on(&self, space: SpaceId, ranges: &[(u64, u64)]) -> Option<Instant>
+        ensures { result ≡ largest_sent_on (state_in self.now) space ranges.now }
     {
-        if !elicits {
-            return None;
+        self.sent_on(space, largest_of(ranges)?)
+    }
+
+    /// Returns how many of these numbers are tracked and were sent on the path in use.
+    fn count_sent_on(&self, space: SpaceId, numbers: &[u64]) -> u64
+        ensures { result ≡ count_sent_on (state_in self.now) space numbers.now }
+    {
+        let mut count = 0;
+        for number in numbers {
+            if self.sent_on(space, *number).is_some() {
+                count += 1;
+            }
         }
-        let sent = self.sent_on(space, largest_of(ranges)?)?;
-        Some(now - sent)
+        count
+    }
+
+    /// Returns with how many newly acknowledged packets the ECN counts of a frame are compared, if it has any: those
+    /// that were sent on the path in use (RFC 9000, 13.4.2.1).
+    #[inline(always)]
+    fn newly_compared(&self, space: SpaceId, numbers: &[u64], counts: &Option<EcnCounts>) -> u64
+        ensures { result
+            ≡ newly_compared (state_in self.now) space numbers.now counts.now }
+    {
+        match counts {
+            Some(_) => self.count_sent_on(space, numbers),
+            None => 0,
+        }
     }
 
     /// Returns whether the window must not grow: the caller had too little to send (RFC 9002, 7.8), or the path in use
@@ -575,17 +608,19 @@ where
             self.old result self.new }
     {
         let before = self.largest_acked(space);
-        let rtt = self.rtt_of(space, now, ranges, newly.elicits);
+        let received = ack.received_at(now);
+        let sent = self.largest_sent_on(space, ranges);
+        let rtt = rtt_since(received, &sent, newly.elicits);
         let is_first = self.is_first_sample(&rtt);
         let is_limited = self.is_limited(ack.app_limited);
         let NewlyAcked { numbers, lost, .. } = newly;
-        let count = numbers.len() as u64;
+        let compared = self.newly_compared(space, &numbers, &ack.ecn);
         self.tell_acked(space, now, is_limited, &numbers);
         self.end_acks(space, now, is_limited);
         self.sample(space, ack.delay, rtt);
-        let losses = self.detect_and_remove_lost_packets(space, now, true, lost);
+        let losses = self.detect_and_remove_lost_packets(space, now, received, true, lost);
         let is_raised = is_raised(before, self.largest_acked(space));
-        let ecn = self.process_ecn(space, now, count, ack.ecn, is_raised);
+        let ecn = self.process_ecn(space, now, compared, sent, ack.ecn, is_raised);
         self.hear(space, now, is_first);
         Acknowledged {
             numbers,

@@ -35,7 +35,8 @@ where
     R: Rng + Drop,
 {
     /// Discards a space with its keys and its tracked packets, and resets the count of probe timeouts (RFC 9002, 6.2.2,
-    /// 6.4 and A.11). Fails with `SpaceDiscarded`, without a change.
+    /// 6.4 and A.11). Fails without a change: with `DataSpace` for the space of 1-RTT packets, which is never discarded
+    /// (RFC 9001, 4.9), and with `SpaceDiscarded` if the space is discarded already.
     pub fn discard(&mut self, space: SpaceId, now: Instant) -> Result<(), SenderError>
         ensures reply { result ≡ discard_reply (state_in self.old) space }
         ensures steps { OnOk result
@@ -43,6 +44,9 @@ where
             (begun_anew space now self.old.variables) self.old self.new) }
         ensures refused { OnErr result (self.new ≡ self.old) }
     {
+        if space == SpaceId::Data {
+            return Err(SenderError::DataSpace);
+        }
         if self.is_discarded(space) {
             return Err(SenderError::Event(Refusal::SpaceDiscarded));
         }

@@ -1,10 +1,9 @@
 //! New senders, and the events that a sender passes to its recovery.
-ghost use Rattle.std.specs.Prelude.{◌≡◌, Some, true, ◌<◌, ◌≤◌, ◌+◌, ◌-◌, ◌∷◌, [], Ok, IfOk, OnOk, OnErr, Decides, if◌then◌else◌};
+ghost use Rattle.std.specs.Prelude.{◌≡◌, Some, true, ◌<◌, ◌≤◌, ◌+◌, ◌-◌, ◌∷◌, [], Ok, IfOk, OnOk, OnErr, Decides};
 ghost use Rattle.recovery_base.specs.Units.{number_limit, u64_limit};
 ghost use Rattle.recovery_packet_numbers.specs.Skips.{IsSkips};
-ghost use Rattle.recovery_history.specs.EventBounds.{StaysInBounds};
 ghost use Rattle.recovery_sender.specs.Bounds.{latest_start, MakesPathEarly};
-ghost use Rattle.recovery_sender.specs.Calls.{backdated, challenged, changes_path, config_of, datagram_reply, elicits_in, forgets_rtt, makes_fresh_path, thresholds_in, to_send, IsNewSender, IsPassedThrough, EventResult, ChangesRtt, PathEventResult};
+ghost use Rattle.recovery_sender.specs.Calls.{backdated, challenged, changes_path, config_of, datagram_reply, elicits_in, thresholds_in, to_send, IsNewSender, IsPassedThrough, EventResult, ChangesRtt};
 ghost use Rattle.recovery_sender.specs.TimerUnchanged.{leaves_timer};
 ghost use Rattle.recovery_sender.specs.Senders.{state_in};
 ghost use Rattle.recovery_sender.specs.Steps.{marked, told, TakesSteps, CompletesCall};
@@ -78,34 +77,6 @@ fn changes_path<Q: RetransmitQueue>(event: &Event<Q>) -> bool
         Event::NewPath { .. } | Event::ResetPath { .. } | Event::RevertPath => true,
         _ => false,
     }
-}
-
-/// Returns whether an event resets the RTT of the path in use.
-fn forgets_rtt<Q: RetransmitQueue>(event: &Event<Q>) -> bool
-    ensures { result ≡ forgets_rtt event.now }
-{
-    match event {
-        Event::NewPath { fresh, .. } => *fresh,
-        Event::ResetPath { .. } => true,
-        _ => false,
-    }
-}
-
-/// Returns whether an event makes a path of which nothing is known.
-fn makes_fresh_path<Q: RetransmitQueue>(event: &Event<Q>) -> bool
-    ensures { result ≡ makes_fresh_path event.now }
-{
-    match event {
-        Event::NewPath { fresh, .. } => *fresh,
-        _ => false,
-    }
-}
-
-/// Returns how many consecutive probe timeouts count on a path, of those before it was in use.
-fn pto_count_on(is_fresh: bool, before: u32) -> u32
-    ensures { result ≡ (if is_fresh then 0 else before) }
-{
-    if is_fresh { 0 } else { before }
 }
 
 /// Returns when an event is to send what counts in flight.
@@ -253,6 +224,11 @@ where
     /// [`Event::PollMtu`]. [`Event::NewPath`] and [`Event::ResetPath`] take effect a nanosecond earlier, as in
     /// [`Sender::new`]. After these and [`Event::RevertPath`] the loss times are computed again with the RTT of the
     /// path then in use. That cost is logarithmic for each packet tracked below the largest acknowledged.
+    ///
+    /// The last validated path is kept (RFC 9000, 9.3.2). If the path in use was never validated and the previous one
+    /// was, [`Event::NewPath`] first makes the event [`Event::RevertPath`]. So [`Event::RevertPath`] always leads to a
+    /// validated path, and fails with `NoSuchPath` if the previous path is not validated: close the connection then.
+    /// At a client a new path is validated at once, since only servers are limited until then (RFC 9000, 8.1).
     #[inline(always)]
     pub fn on_event(&mut self, event: Event<Q>) -> Result<Answer<Q>, SenderError>
         requires passes { IsPassedThrough event }
@@ -277,28 +253,6 @@ where
         }
     }
 
-    /// Applies an event that changes or resets the path in use. Loss times then follow from its RTT. A fresh path
-    /// begins without backoff: the timeouts before were those of another path.
-    fn change_path(&mut self, event: Event<Q>) -> Result<Answer<Q>, SenderError>
-        requires stays { StaysInBounds latest_start (state_in self.old) event }
-        ensures { PathEventResult event self.old self.new result }
-    {
-        let forgets = forgets_rtt(&event);
-        let is_fresh = makes_fresh_path(&event);
-        match self.apply(event) {
-            Ok(answer) => {
-                let variables = self.variables;
-                self.change_rtt(Variables {
-                    initial_rtt: variables.initial_rtt_after(forgets),
-                    pto_count: pto_count_on(is_fresh, variables.pto_count),
-                    ..variables
-                });
-                Ok(answer)
-            }
-            Err(refusal) => Err(SenderError::Event(refusal)),
-        }
-    }
-
     /// Sets the RTT that timers use before the first RTT sample of the path in use, instead of the one in the settings
     /// (RFC 9002, 6.2.2). Use the RTT of an earlier connection to the same peer, or the time that a Retry took. Probe
     /// timeout, loss delay and timer follow at once; the pacer uses the settings until the first sample. If the RTT of
@@ -315,7 +269,7 @@ where
     }
 
     /// Stores variables with another RTT, computes the loss times again, and sets the timer.
-    fn change_rtt(&mut self, variables: Variables)
+    pub(super) fn change_rtt(&mut self, variables: Variables)
         ensures { ChangesRtt variables self.old self.new }
     {
         self.keep_variables(variables);
@@ -423,7 +377,7 @@ where
     }
 
     /// Validates the address of the path in use.
-    fn validate(&mut self)
+    pub(super) fn validate(&mut self)
         ensures { TakesSteps (told (Event.Validated PathName.Current) (Ok Answer.Done) ∷ [])
             self.old self.new }
     {

@@ -133,10 +133,11 @@ where
     Q: RetransmitQueue,
     R: Rng + Drop,
 {
-    /// Returns the inputs of a pass over a space with this largest acknowledged number.
-    fn look(&self, space: SpaceId, now: Instant, due_to_ack: bool, largest: u64) -> LossPass
+    /// Returns the inputs of a pass over a space with this largest acknowledged number. The pass judges age by the time
+    /// `at`.
+    fn look(&self, space: SpaceId, at: Instant, due_to_ack: bool, largest: u64) -> LossPass
         ensures { result
-            ≡ look_of (state_in self.now) self.now.variables space now due_to_ack largest }
+            ≡ look_of (state_in self.now) self.now.variables space at due_to_ack largest }
     {
         let path = self.path();
         let Variables {
@@ -161,7 +162,7 @@ where
         };
         LossPass {
             space,
-            at: now,
+            at,
             largest,
             packet_threshold: thresholds.packets,
             delay: loss_delay(thresholds.time, rtt.get(), rtt.latest()),
@@ -402,25 +403,28 @@ where
     }
 
     /// Declares the lost packets of a space so, and stores when the next one is lost (RFC 9002, A.10:
-    /// DetectAndRemoveLostPackets). Only a pass after an ACK detects persistent congestion. Cost: logarithmic for each
-    /// packet tracked below the largest acknowledged. Inlined: after most ACKs there is nothing to scan.
+    /// DetectAndRemoveLostPackets). Age is judged by the time `at`: a packet that the peer may still acknowledge with a
+    /// frame that waits to be processed is not too old. Only a pass after an ACK detects persistent congestion. Cost:
+    /// logarithmic for each packet tracked below the largest acknowledged. Inlined: after most ACKs there is nothing to
+    /// scan.
     #[inline(always)]
     pub(super) fn detect_and_remove_lost_packets(
         &mut self,
         space: SpaceId,
         now: Instant,
+        at: Instant,
         due_to_ack: bool,
         room: Vec<u64>,
     ) -> Losses
         requires none { room.items ≡ [] }
         requires room { HasRoomBelowLargest space self.old room }
-        ensures { DetectsLosses space now due_to_ack self.old result self.new }
+        ensures { DetectsLosses space now at due_to_ack self.old result self.new }
     {
         let Some(largest) = self.gap(space) else {
             self.set_loss_time(space, None);
             return Losses::none(self.alloc);
         };
-        self.remove_lost(space, now, due_to_ack, room, largest)
+        self.remove_lost(space, now, at, due_to_ack, room, largest)
             .by_field()
     }
 
@@ -430,6 +434,7 @@ where
         &mut self,
         space: SpaceId,
         now: Instant,
+        at: Instant,
         due_to_ack: bool,
         room: Vec<u64>,
         largest: u64,
@@ -437,10 +442,10 @@ where
         requires largest { largest_in (state_in self.old) space ≡ Some largest }
         requires none { room.items ≡ [] }
         requires room { HasRoomBelowLargest space self.old room }
-        ensures { DetectsLosses space now due_to_ack self.old result self.new }
+        ensures { DetectsLosses space now at due_to_ack self.old result self.new }
     {
         let mut numbers = room;
-        let look = self.look(space, now, due_to_ack, largest);
+        let look = self.look(space, at, due_to_ack, largest);
         let mut tally = self.find_lost(&look, &mut numbers);
         let is_black_hole = self.losses_done(now, &numbers);
         let is_persistent = tally.run.is_persistent;

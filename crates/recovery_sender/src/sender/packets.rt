@@ -1,6 +1,7 @@
 //! Transmissions (RFC 9002, 7; RFC 9000, 8.1).
-ghost use Rattle.std.specs.Prelude.{◌≡◌, ◌<◌, ◌≤◌, ◌+◌, ◌∷◌, [], true, false, None, Some, if◌then◌else◌, nat_lt, Ok, IfOk, OnOk, OnErr, IfSome};
+ghost use Rattle.std.specs.Prelude.{◌≡◌, ◌<◌, ◌≤◌, ◌+◌, ◌&&◌, not, ◌∷◌, [], true, false, None, Some, if◌then◌else◌, nat_lt, Ok, IfOk, OnOk, OnErr, IfSome};
 ghost use Rattle.recovery_base.specs.declared.below.SpaceId.TheVariants.{Data};
+ghost use Rattle.recovery_base.specs.Spaces.{same_space};
 ghost use Rattle.recovery_base.specs.Units.{u64_limit};
 ghost use Rattle.recovery_events.specs.declared.event.Event.TheVariants.{Send};
 ghost use Rattle.recovery_spaces.specs.Discarded.{is_discarded};
@@ -9,9 +10,9 @@ ghost use Rattle.recovery_losses.specs.Variables.{based, is_probe_due, probed};
 ghost use Rattle.recovery_sender.specs.Promises.Pasts.{ForEveryRun};
 ghost use Rattle.recovery_sender.specs.Promises.Window.{FitsWindow, IsByRoom};
 ghost use Rattle.recovery_sender.specs.Senders.{state_in};
-ghost use Rattle.recovery_sender.specs.Calls.{bytes_in_flight, is_checked, is_full, sent_at, sent_in, transmission, transmit_reply, transmit_steps, window_of, EventResult};
+ghost use Rattle.recovery_sender.specs.Calls.{after_transmit, bytes_in_flight, is_checked, is_full, sent_at, sent_in, transmission, transmit_steps, window_of, EventResult, IsTransmissionReply, PermitsAckAlone};
 ghost use Rattle.recovery_sender.specs.Steps.{told, TakesSteps, CompletesCall};
-ghost use Rattle.recovery_sender.specs.Timer.{IsOnlyPto};
+ghost use Rattle.recovery_sender.specs.Timer.{IsOnlyPto, TimerIsSet};
 
 use super::{Sender, SenderError};
 use rand_core::Rng;
@@ -29,9 +30,18 @@ pub enum Transmission {
     /// The amplification limit forbids it (RFC 9000, 8.1).
     Blocked,
     /// The window has no room for it (RFC 9002, 7).
-    Full,
-    /// The pacer delays it: ask again at this time (RFC 9002, 7.7).
-    Delayed(Instant),
+    Full {
+        /// Whether an ACK of the space is required at once (RFC 9000, 13.2.1). An ACK needs no room: ask again for a
+        /// packet that holds it alone and does not count in flight.
+        ack: bool,
+    },
+    /// The pacer delays it (RFC 9002, 7.7).
+    Delayed {
+        /// The time to ask again.
+        until: Instant,
+        /// Whether an ACK of the space is required at once, which is not paced (RFC 9000, 13.2.1).
+        ack: bool,
+    },
 }
 
 /// Returns `now` if a packet counts in flight: if it has a size (RFC 9002, 2).
@@ -39,6 +49,13 @@ pub(super) fn counted_at(now: Instant, size: u16) -> Option<Instant>
     ensures { result ≡ (if nat_lt 0 size then Some now else None) }
 {
     if size > 0 { Some(now) } else { None }
+}
+
+/// Returns whether packets may wait for room in the window: those that count in flight, of a handshake space.
+fn may_wait(space: SpaceId, in_flight: bool) -> bool
+    ensures { result ≡ (in_flight && not (same_space space Data)) }
+{
+    in_flight && space != SpaceId::Data
 }
 
 /// Returns the space of a packet if it is ack-eliciting.
@@ -78,6 +95,10 @@ where
     /// packets by `send` before the next datagram. If nothing in it counts in flight, or a probe is due in the space,
     /// only the amplification limit is checked (RFC 9002, 7, 7.5 and 7.7). Fails, without a change, with
     /// `SpaceDiscarded`, then with `Overflow` if the bytes transmitted on the path would exceed `u64::MAX`.
+    ///
+    /// Before the handshake is confirmed, 1-RTT packets that the peer cannot read yet may fill the window. So ask for
+    /// each handshake packet that waits, even if [`Sender::window_room`] has no room for it: from the first `Full` on
+    /// the space has a probe timeout, and its probes pass the window (RFC 9002, 6.2.4 and 7.5).
     #[inline(always)]
     pub fn transmit(
         &mut self,
@@ -87,9 +108,8 @@ where
         in_flight: bool,
     ) -> Result<Transmission, SenderError>
         // By the state before it,
-        ensures reply { result
-            ≡ transmit_reply F.Controller.words (state_in self.old) self.old.variables now bytes
-            space in_flight }
+        ensures reply { IsTransmissionReply F.Controller.words (state_in self.old)
+            self.old.variables now bytes space in_flight result }
 
         // so that what counts in flight fits into the window, if no probe is due (RFC 9002, 7).
         ensures window { result ≡ Ok Transmission.Transmitted → in_flight ≡ true
@@ -103,24 +123,74 @@ where
             (is_checked self.old.variables space in_flight) (FitsWindow beginning past bytes)
             sent)) }
 
-        // The recovery takes an event for what limit and window permit.
+        // The recovery takes an event for what limit and window permit. A handshake space waits
+        // while there is no room.
         ensures steps { IfOk result (λ sent. let old = state_in self.old in
             CompletesCall (transmit_steps now bytes
             (is_checked self.old.variables space in_flight) sent)
-            self.old.variables self.old self.new) }
+            (after_transmit now space in_flight sent self.old.variables) self.old self.new) }
+
+        // If the window or the pacer holds it back, a datagram of its size that does not count in flight, as an ACK
+        // alone, may be sent at once.
+        ensures alone { IfOk result (λ sent. PermitsAckAlone (state_in self.new) space bytes sent) }
         ensures refused { OnErr result (self.new ≡ self.old) }
     {
         let Some(is_checked) = self.is_checked(space, in_flight) else {
             return Err(SenderError::Event(Refusal::SpaceDiscarded));
         };
+        let ack = self.ack_required(space);
         if !self.path().has_room(bytes) {
             return Err(SenderError::Event(Refusal::Overflow));
         }
         let was_timed = self.is_timed_unlimited();
         let known = self.known_pto();
-        let sent = self.transmit_where_it_may(now, bytes, is_checked);
-        self.time_on(was_timed, known);
+        let sent = self.transmit_where_it_may(now, bytes, is_checked, ack);
+        self.end_transmit(space, now, in_flight, &sent, was_timed, known);
         Ok(sent)
+    }
+
+    /// Ends a call that asks for a datagram. If it counts in flight in a handshake space, its packet may wait for room
+    /// now, or no longer.
+    #[inline(always)]
+    fn end_transmit(
+        &mut self,
+        space: SpaceId,
+        now: Instant,
+        in_flight: bool,
+        sent: &Transmission,
+        was_timed: bool,
+        known: Option<Duration>,
+    )
+        requires timed { was_timed ≡ true → TimerIsSet (state_in self.old) self.old.variables }
+        requires known { was_timed ≡ true → IsOnlyPto (state_in self.old) self.old.variables known }
+        ensures { CompletesCall [] (after_transmit now space in_flight sent.now self.old.variables)
+            self.old self.new }
+    {
+        if !may_wait(space, in_flight) {
+            self.time_on(was_timed, known);
+            return;
+        }
+        self.note_room(space, now, in_flight, sent);
+        self.set_loss_detection_timer();
+    }
+
+    /// Records whether a packet of a space waits for room in the window. This may move the timer.
+    fn note_room(&mut self, space: SpaceId, now: Instant, in_flight: bool, sent: &Transmission)
+        ensures state { state_in self.new ≡ state_in self.old }
+        ensures variables { self.new.variables
+            ≡ after_transmit now space in_flight sent.now self.old.variables }
+    {
+        self.is_timer_current = false;
+        if !in_flight {
+            return;
+        }
+        match sent {
+            Transmission::Full { .. } => self.variables.find_full(space, now),
+            Transmission::Transmitted | Transmission::Delayed { .. } => {
+                self.variables.find_room(space)
+            }
+            Transmission::Blocked => {}
+        }
     }
 
     /// Records a sent packet, as [`Event::Send`] and with its errors. The probe timeout of its space is measured from
@@ -205,18 +275,24 @@ where
 
     /// Sends the datagram, if limit, window and pacer permit.
     #[inline(always)]
-    fn transmit_where_it_may(&mut self, now: Instant, bytes: u16, is_checked: bool) -> Transmission
+    fn transmit_where_it_may(
+        &mut self,
+        now: Instant,
+        bytes: u16,
+        is_checked: bool,
+        ack: bool,
+    ) -> Transmission
         requires total { (state_in self.old).paths.current.state.total_sent + bytes < u64_limit }
         ensures value { result
-            ≡ transmission F.Controller.words (state_in self.old) now bytes is_checked }
+            ≡ transmission F.Controller.words (state_in self.old) now bytes is_checked ack }
         ensures steps { TakesSteps (transmit_steps now bytes is_checked result) self.old self.new }
     {
         if self.path().anti_amplification_blocked(u64::from(bytes)) {
             Transmission::Blocked
         } else if is_checked && self.is_full(bytes) {
-            Transmission::Full
+            Transmission::Full { ack }
         } else {
-            self.transmit_now(now, bytes, is_checked)
+            self.transmit_now(now, bytes, is_checked, ack)
         }
     }
 
@@ -232,18 +308,24 @@ where
 
     /// Sends the datagram, if the pacer permits.
     #[inline(always)]
-    fn transmit_now(&mut self, now: Instant, bytes: u16, is_checked: bool) -> Transmission
+    fn transmit_now(
+        &mut self,
+        now: Instant,
+        bytes: u16,
+        is_checked: bool,
+        ack: bool,
+    ) -> Transmission
         requires total { (state_in self.old).paths.current.state.total_sent + bytes < u64_limit }
         requires limit { is_blocked (state_in self.old).paths.current.state bytes ≡ false }
         requires window { is_checked ≡ true
             → is_full F.Controller.words (state_in self.old) bytes ≡ false }
         ensures value { result
-            ≡ transmission F.Controller.words (state_in self.old) now bytes is_checked }
+            ≡ transmission F.Controller.words (state_in self.old) now bytes is_checked ack }
         ensures steps { TakesSteps (transmit_steps now bytes is_checked result) self.old self.new }
     {
         match self.tell_transmit(now, bytes, is_checked) {
             Answer::Transmitted => Transmission::Transmitted,
-            Answer::Delayed(until) => Transmission::Delayed(until),
+            Answer::Delayed(until) => Transmission::Delayed { until, ack },
             _ => unreachable!(),
         }
     }

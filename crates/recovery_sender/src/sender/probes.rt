@@ -137,7 +137,7 @@ where
         requires room { HasRoomBelowLargest space self.old room }
         ensures { DetectsByTime space now self.old result self.new }
     {
-        let losses = self.detect_and_remove_lost_packets(space, now, false, room);
+        let losses = self.detect_and_remove_lost_packets(space, now, now, false, room);
         self.complete(Variables {
             base: now,
             ..self.variables

@@ -1,7 +1,8 @@
 //! Readings of a sender (RFC 9000, 8.1; RFC 9002, 6.2, 7 and A.8).
-ghost use Rattle.std.specs.Prelude.{◌≡◌, ◌*◌, ◌-◌, min, MatchOption};
+ghost use Rattle.std.specs.Prelude.{◌≡◌, ◌*◌, ◌-◌, min, Decides, MatchOption};
 ghost use Rattle.recovery_base.specs.Units.{largest_u64};
 ghost use Rattle.recovery_paths.specs.PathStates.{amplification_factor, IsRoomInPacer};
+ghost use Rattle.recovery_sender.specs.Calls.{IsAckRequired};
 ghost use Rattle.recovery_sender.specs.Readings.{amplification_room, timer_state, window_room};
 ghost use Rattle.recovery_sender.specs.RetransmitAll.{HasNoneFrom, IsLeastFrom};
 ghost use Rattle.recovery_sender.specs.Senders.{state_in};
@@ -66,7 +67,8 @@ where
     }
 
     /// Returns how many more bytes fit into the congestion window of the path in use (RFC 9002, 7): 0 if it is full. A
-    /// larger datagram that counts in flight is `Full`.
+    /// larger datagram that counts in flight is `Full`. Ask [`Sender::transmit`] for a handshake packet all the same:
+    /// only then does its space have a probe timeout while it waits.
     pub fn window_room(&self) -> u64
         ensures { result ≡ window_room F.Controller.words (state_in self.now) }
     {
@@ -74,6 +76,17 @@ where
         path.congestion
             .window()
             .saturating_sub(path.in_flight().bytes)
+    }
+
+    /// Returns whether an ACK of a space is required at once (RFC 9000, 13.2.1): if the window or the pacer holds its
+    /// packets back, send the ACK alone. False for a discarded space.
+    pub fn ack_required(&self, space: SpaceId) -> bool
+        ensures { Decides result (IsAckRequired (state_in self.now) space) }
+    {
+        match self.space(space) {
+            Some(here) => here.pending_acks.can_send(),
+            None => false,
+        }
     }
 
     /// Returns how many bytes the pacer permits now on the path in use: the largest datagram that `transmit` does not

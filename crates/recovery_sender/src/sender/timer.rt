@@ -10,7 +10,7 @@ ghost use Rattle.quic_recovery.specs.State.{ReadOnlyTransition};
 ghost use Rattle.recovery_sender.specs.Bounds.{latest_start};
 ghost use Rattle.recovery_sender.specs.Senders.{state_in};
 ghost use Rattle.recovery_sender.specs.Spaces.{space_in};
-ghost use Rattle.recovery_sender.specs.Timer.{IsOnlyPto, TimerIsSet, competes, due_of, has_eliciting, loss_due, probe_due, probe_in, deadlock_due, deadlock_space, may_deadlock, only_pto, pto_of, rtt_in, tracks_eliciting};
+ghost use Rattle.recovery_sender.specs.Timer.{IsOnlyPto, TimerIsSet, competes, due_of, has_eliciting, loss_due, probe_due, probe_in, deadlock_due, deadlock_space, only_pto, pto_of, rtt_in, tracks_eliciting};
 ghost use Rattle.recovery_sender.specs.Steps.{told, loss_time, timer_event, TakesSteps, CompletesCall};
 
 use super::Sender;
@@ -21,7 +21,7 @@ use recovery_base::timer::Timer;
 use recovery_congestion::congestion::ControllerFactory;
 use recovery_congestion::rtt::RttEstimator;
 use recovery_events::event::{Answer, Event, Refusal};
-use recovery_losses::{Due, Variables, sooner};
+use recovery_losses::{Due, Variables, probe_start, sooner};
 use recovery_paths::paths::PathData;
 use recovery_queue::queue::RetransmitQueue;
 use recovery_spaces::spaces::PacketSpace;
@@ -291,16 +291,18 @@ where
         self.probe_in(space, self.space(space)?)
     }
 
-    /// Returns when a space is to be probed, by its state.
+    /// Returns when a space is to be probed, by its state: a probe timeout after its last ack-eliciting packet, or
+    /// after a packet of it began to wait for room in the window.
     #[inline(always)]
     fn probe_in(&self, space: SpaceId, here: &PacketSpace<Q>) -> Option<(Instant, Due)>
         ensures { result ≡ probe_in (state_in self.now) self.now.variables space here.now }
     {
-        if !has_eliciting(here) {
-            return None;
-        }
-        let sent = here.time_of_last_ack_eliciting_packet?;
-        Some((sent + self.pto(space), Due::Probes(space)))
+        let start = probe_start(
+            has_eliciting(here),
+            self.variables.waiting_since(space),
+            here.time_of_last_ack_eliciting_packet,
+        )?;
+        Some((start + self.pto(space), Due::Probes(space)))
     }
 
     /// Returns whether a space tracks an ack-eliciting packet.
@@ -313,21 +315,12 @@ where
         }
     }
 
-    /// Returns whether a deadlock is possible, because nothing may be probed for while a packet that completes the
-    /// handshake waits. That is so at a client that does not know its address validated (RFC 9002, 6.2.2.1). It is so
-    /// at both endpoints while 1-RTT packets are in flight, for which nobody probes before the handshake is confirmed.
-    fn may_deadlock(&self) -> bool
-        ensures { result ≡ may_deadlock (state_in self.now) self.now.variables }
-    {
-        !self.variables.is_address_validated()
-            || !self.variables.is_handshake_confirmed && self.tracks_eliciting(SpaceId::Data)
-    }
-
-    /// Returns when a probe is sent that ends a possible deadlock (RFC 9002, 6.2.2.1).
+    /// Returns when a client probes that does not know its address validated: the server may have to wait for a
+    /// datagram before it may send (RFC 9002, 6.2.2.1).
     fn deadlock_due(&self) -> Option<(Instant, Due)>
         ensures { result ≡ deadlock_due (state_in self.now) self.now.variables }
     {
-        if !self.may_deadlock() {
+        if self.variables.is_address_validated() {
             return None;
         }
         let space = self.deadlock_space();

@@ -14,5 +14,5 @@ returns g c =
       behind = behind;
       detects = c.detect_and_remove_lost_packets-losses.ensures;
       does = does_as kept wanted behind _ _ refl (ap (λ (variables : Variables). record variables { base = now })
-          (variables_kept _ _ _ _ _ _ c.detect_and_remove_lost_packets-losses.ensures)) c.complete.ensures;
+          (variables_kept _ _ _ _ _ _ _ c.detect_and_remove_lost_packets-losses.ensures)) c.complete.ensures;
     }

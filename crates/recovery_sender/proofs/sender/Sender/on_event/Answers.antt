@@ -4,7 +4,7 @@ use Rattle.recovery_sender.specs.Calls.{after_event}
 use Rattle.recovery_sender.specs.Senders.{state_in}
 use Rattle.recovery_sender.specs.Steps.{told}
 use Rattle.recovery_sender.proofs.BoundLaws.{passed_stays}
-use Rattle.recovery_sender.proofs.EventLaws.{event_answered, path_changed}
+use Rattle.recovery_sender.proofs.EventLaws.{event_answered, event_failed, path_changed}
 use Rattle.recovery_sender.proofs.TimerKeptLaws.{event_left}
 use Rattle.recovery_sender.proofs.StepLaws.{does_as, does_behind_with, told_changes}
 use Rattle.recovery_sender.proofs.sender.Sender.on_event.Goals as goal
@@ -37,10 +37,12 @@ time_on-requires g c =
     }
 
 pub returns-in-Err : goal.returns-in-Err
-returns-in-Err g c = rw (← c.backdate.ensures.value) c.in-Err.ensures
+returns-in-Err g c = rw (← c.backdate.ensures.value) (event_failed c.backdate.new.event c.args.self.now _
+    c.if-changes_path.ensures c.in-Err.refusal c.in-Err.ensures)
 
 pub change_path-requires : goal.change_path-requires
 change_path-requires g c = record {
+  changes = sym c.if-changes_path.ensures;
   stays = rw c.backdate.ensures.value (passed_stays (state_in c.args.self.now) c.args.event c.requires.passes
       (rw c.backdate.ensures.value at c.backdate.ensures.early));
 }

@@ -24,8 +24,8 @@ pub returns : goal.returns
 returns g c =
     let old = c.args.self.now in
     let is_look = c.look-look.ensures in
-    detects_all c.args.space c.args.now c.args.due_to_ack old _ _ c.args.largest c.requires.largest
-    (found_all c.args.space c.args.now c.args.due_to_ack old _ _ c.args.largest c.find_lost-tally.result
+    detects_all c.args.space c.args.now c.args.at c.args.due_to_ack old _ _ c.args.largest c.requires.largest
+    (found_all c.args.space c.args.now c.args.at c.args.due_to_ack old _ _ c.args.largest c.find_lost-tally.result
     c.find_lost-tally.new.self c.losses_done-is_black_hole.new.self c.congested.new.self c.lose_probe-probe.new.self
     c.lose_probe-probe.new.tally (rw is_look at c.find_lost-tally.ensures)
     (rw c.deref.ensures.value at c.losses_done-is_black_hole.ensures.goes)
