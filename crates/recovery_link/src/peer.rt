@@ -108,6 +108,7 @@ impl Peer {
             delay: Duration::from_nanos(frame.delay),
             ecn: frame.ecn,
             app_limited: true,
+            received: None,
         };
         let at = Instant::from_nanos(now);
         match self.sender.on_ack(SpaceId::Data, at, &frame.ranges, ack) {

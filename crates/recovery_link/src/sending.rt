@@ -59,8 +59,8 @@ fn largest_in(frame: Option<&Frame>) -> Option<u64> {
 fn again_at(sent: &Transmission) -> Option<u64> {
     match sent {
         Transmission::Transmitted => None,
-        Transmission::Delayed(until) => Some(until.as_nanos()),
-        Transmission::Blocked | Transmission::Full => Some(u64::MAX),
+        Transmission::Delayed { until, .. } => Some(until.as_nanos()),
+        Transmission::Blocked | Transmission::Full { .. } => Some(u64::MAX),
     }
 }
 
@@ -254,6 +254,7 @@ impl Sending {
             delay: Duration::from_nanos(frame.delay),
             ecn: frame.ecn,
             app_limited,
+            received: None,
         };
         let at = Instant::from_nanos(now);
         match self.sender.on_ack(SpaceId::Data, at, &frame.ranges, ack) {

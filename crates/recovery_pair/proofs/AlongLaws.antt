@@ -27,6 +27,7 @@ use Rattle.recovery_sender.specs.declared.sender.SenderError.{SenderError}
 use Rattle.recovery_sender.specs.declared.sender.SenderError.TheVariants as refused
 use Rattle.recovery_sender.specs.declared.sender.acks.EcnOutcome.{EcnOutcome}
 use Rattle.recovery_sender.proofs.ExtendedLaws.{loss_time_reached, marks_reached}
+use Rattle.recovery_sender.proofs.EventLaws.{failed_takes}
 use Rattle.recovery_pair.specs.Pasts.{Continues, HasPast}
 
 module _ {Q S M P : Type 0} (IsSo : Event Q S M P → Reply Q → Type 0) where
@@ -178,8 +179,9 @@ module _ {F Q R C K S M P : Type 0} {f : _} {c : _} {q : _} {m : _} {r : _} {IsS
       → (result : Result (Answer Q) SenderError) → IsEventResult event old new result → Continues Goes old new
   passes_so event so stays (Ok answer) is = call_so _ _
       (subst (λ (changes : Bool). IsAnsweredEvent event old new answer changes) stays is) (so (Ok answer), tt)
-  passes_so event so stays (Err (refused.Event refusal)) takes = steps_so _ takes (so (Err refusal), tt)
-  passes_so event so stays (Err refused.Unsent) never = absurd never
+  passes_so event so stays (Err (refused.Event refusal)) is =
+      steps_so _ (failed_takes event old new stays refusal is) (so (Err refusal), tt)
+  passes_so event so stays (Err other) never = absurd never
 
   -- a call that makes one event, by what that adds
   pub event_so : (event : Event Q S M P) (reply : Reply Q) (After : History Q S M P → History Q S M P → Type 0)
@@ -214,9 +216,10 @@ module _ {F Q R C K S M P : Type 0} {f : _} {c : _} {q : _} {m : _} {r : _} {IsS
       (steps_so adds goes.0 new _ goes.2 (so_first IsSo (state_in goes.0) space _ _))
 
   -- no ECN counts
-  pub ecn_so : (space : SpaceId) (now newly : ℕ) (sending : Bool) (counts : Option EcnCounts) (raised : Bool)
-      (end : EcnOutcome) → counts ≡ None → EcnResult space now newly old new sending counts raised end
-      → Continues Goes old new
-  ecn_so space now newly false counts raised end none goes = steps_so adds old new [] goes.1 tt
-  ecn_so space now newly true None raised end none goes = steps_so adds old new _ goes.1 tt
-  ecn_so space now newly true (Some counts) raised end none goes = absurd cc
+  pub ecn_so : (space : SpaceId) (now newly : ℕ) (sent : Option ℕ) (sending : Bool) (counts : Option EcnCounts)
+      (raised : Bool) (end : EcnOutcome) → counts ≡ None
+      → EcnResult space now newly sent old new sending counts raised end → Continues Goes old new
+  ecn_so space now newly sent false counts raised end none goes = steps_so adds old new [] goes.1 tt
+  ecn_so space now newly sent true counts false end none goes = steps_so adds old new [] goes.1 tt
+  ecn_so space now newly sent true None true end none goes = steps_so adds old new _ goes.1 tt
+  ecn_so space now newly sent true (Some counts) true end none goes = absurd cc

@@ -1,5 +1,5 @@
--- No deadlock: while bytes are in flight, the timer is set; and the window holds a datagram back only then. Both are
--- never stuck.
+-- No deadlock: while bytes are in flight that are probed for, the timer is set, and also while the window holds a
+-- handshake packet back. Both are never stuck.
 use Rattle.std.proofs.Common.{◌≡◌, ℕ, ◌+◌, ◌*◌, ◌<◌, ◌≤◌, ◌==◌, ◌⊎◌, inl, inr, ◌&&◌, ◌||◌, Bool, true, false, List, [], ◌∷◌, Option, None, Some, Result, Ok, nat_lt, refl, sym, ap, subst, ◌∙◌, arith, true≢false}
 use Rattle.std.proofs.lemmas.Bool.{cases_lt}
 use Rattle.std.proofs.lemmas.Option.{none-some}
@@ -9,6 +9,7 @@ use Rattle.recovery_base.specs.declared.below.SpaceId.{SpaceId}
 use Rattle.recovery_base.specs.declared.below.SpaceId.TheVariants.{Data, Handshake, Initial}
 use Rattle.recovery_base.specs.declared.timer.Timer.TheVariants.{LossDetection}
 use Rattle.recovery_base.specs.Spaces.{same_space}
+use Rattle.recovery_base.specs.Timers.{moment}
 use Rattle.recovery_events.specs.declared.event.Answer.TheVariants.{Probe, Sent}
 use Rattle.recovery_events.specs.declared.event.Event.{Event}
 use Rattle.recovery_events.specs.declared.event.Event.TheVariants.{DiscardSpace, PollMtu, Send}
@@ -34,7 +35,7 @@ use Rattle.recovery_history.proofs.OneOutcomeLaws.{have_one_fate}
 use Rattle.recovery_history.proofs.RejectionsLaws.{refuses_rightly}
 use Rattle.recovery_history.proofs.Runs.{kept_after}
 use Rattle.recovery_history.proofs.TrackedLaws.{one_space}
-use Rattle.recovery_sender.specs.Calls.{bytes_in_flight, is_checked, is_full, transmit_reply, window_of}
+use Rattle.recovery_sender.specs.Calls.{bytes_in_flight, is_checked, is_full, window_of}
 use Rattle.recovery_sender.specs.Promises.Liveness.{IsOutstanding, IsTimerByEvents, deadlock_space_by, may_send}
 use Rattle.recovery_sender.specs.Promises.Lost.{elicits_by}
 use Rattle.recovery_sender.specs.Senders.{state_in}
@@ -42,6 +43,8 @@ use Rattle.recovery_sender.specs.declared.sender.Sender.{Sender}
 use Rattle.recovery_sender.specs.declared.sender.SenderError.{SenderError}
 use Rattle.recovery_sender.specs.declared.sender.packets.Transmission.{Transmission}
 use Rattle.recovery_sender.specs.declared.sender.packets.Transmission.TheVariants.{Blocked, Full}
+use Rattle.recovery_losses.specs.Variables.{since_in, waiting_since}
+use Rattle.recovery_pair.specs.declared.endpoint.Outgoing.TheVariants as outgoing
 use Rattle.recovery_pair.specs.declared.endpoint.Waiting.{Waiting}
 use Rattle.recovery_pair.specs.declared.steps.End.{End}
 use Rattle.recovery_pair.specs.declared.steps.End.TheVariants.{Client, Server}
@@ -51,11 +54,11 @@ use Rattle.recovery_pair.specs.declared.steps.PairStep.{PairStep}
 use Rattle.recovery_pair.specs.declared.steps.PairStep.TheVariants as steps
 use Rattle.recovery_pair.specs.declared.steps.WirePacket.{WirePacket}
 use Rattle.recovery_pair.specs.AddressKnown.{Known, KnowsWithCause, known_at, known_of}
-use Rattle.recovery_pair.specs.Flights.{Numbers, counted_if, flight, no_numbers}
+use Rattle.recovery_pair.specs.Flights.{Numbers, counted_if, no_numbers}
 use Rattle.recovery_pair.specs.Logs.{PairLog, has_validated, was_discarded}
-use Rattle.recovery_pair.specs.NoDeadlock.{AreNeverStuck, AreTimed, FollowsHandshake, HasProbeKeys, HasTimer, HasValidated, HoldsWithCause, IfTied, IsHeldWithCause, IsTimed, MayProbe, NeverStuck, deadlock_space}
+use Rattle.recovery_pair.specs.NoDeadlock.{AreNeverStuck, AreTimed, FollowsHandshake, HasProbeKeys, HasTimer, HasValidated, HoldsWithCause, IfTied, IsHeldWithCause, IsTimed, NeverStuck, deadlock_space, is_unprobed, probed_flight}
 use Rattle.recovery_pair.specs.Pasts.{Continues, GoesOnQuietly, HasPast, flight_in, silent_bytes}
-use Rattle.recovery_pair.specs.Permits.{HoldsAt, PermitsAnswer}
+use Rattle.recovery_pair.specs.Permits.{HoldsAt, PermitsAnswer, SaysOf, WaitsIfFull}
 use Rattle.recovery_pair.specs.Runs.{StepKeeps}
 use Rattle.recovery_pair.specs.Tied.{IsLogged, IsTied, validated_first}
 use Rattle.recovery_pair.specs.Timed.{AreTimedAs, IsTimedAs, KeepsTimers}
@@ -288,10 +291,13 @@ module _ {F Q R C K S M P : Type 0} {f : _} {c : _} {q : _} {m : _} {r : _} (sen
   abbrev begun : Beginning F K Q S M P
   begun = begins f.built c.words (queue_model q.contents q.words q.blank) own.config own.start own.random
 
-  outstanding_by : 0 < flight_in no_numbers own.past → (space : SpaceId) × IsOutstanding own.past space
-  outstanding_by more =
-      let one = flying_by begun (generations own.past).current no_numbers own.past own.came.replies more in (
+  outstanding_by : (gone : Numbers) → 0 < flight_in gone own.past
+      → (space : SpaceId) × (n : ℕ) × (gone space n ≡ false) × IsOutstanding own.past space
+  outstanding_by gone more =
+      let one = flying_by begun (generations own.past).current gone own.past own.came.replies more in (
         one.space,
+        one.number,
+        one.stays,
         (
           lives_by begun own.past own.came.replies one.space one.number one.tracked,
           one.number,
@@ -300,40 +306,31 @@ module _ {F Q R C K S M P : Type 0} {f : _} {c : _} {q : _} {m : _} {r : _} (sen
         ),
       )
 
-  -- while a packet is in flight
+  stopped : moment LossDetection (state_in sender).timers ≡ None → timer_value own.past LossDetection ≡ None
+  stopped none = sym (own.came.state_after.timers LossDetection) ∙ none
+
+  -- while a packet is in flight that is probed for
   timed_by : IsTimerByEvents begun own.past (state_in sender) sender.variables → may_send begun own.past ≡ true
-      → (sender.variables.is_handshake_confirmed ≡ true)
-      ⊎ (is_discarded (deadlock_space_by own.past sender.variables) own.past ≡ false)
-      → (space : SpaceId) → IsOutstanding own.past space → HasTimer sender
-  timed_by timer may keys space outstanding none =
-      by (same_space space Data) sender.variables.is_handshake_confirmed refl refl
-    where
-      stopped : timer_value own.past LossDetection ≡ None
-      stopped = sym (own.came.state_after.timers LossDetection) ∙ none
+      → (space : SpaceId) → (same_space space Data && not sender.variables.is_handshake_confirmed) ≡ false
+      → IsOutstanding own.past space → HasTimer sender
+  timed_by timer may space goes outstanding none =
+      let set = timer.runs may space goes outstanding in none-some set.time (sym (stopped none) ∙ set.set)
 
-      never : (same_space space Data && not sender.variables.is_handshake_confirmed) ≡ false → ⊥
-      never goes = let set = timer.runs may space goes outstanding in
-          none-some set.time (sym stopped ∙ set.set)
-
-      by : (is_data confirmed : Bool) → same_space space Data ≡ is_data
-          → sender.variables.is_handshake_confirmed ≡ confirmed → ⊥
-      by false confirmed one two = never (rw one refl)
-      by true true one two = never (rw (one, two) refl)
-      by true false one two = elim keys [
-        | inl confirmed ↦ true≢false (sym confirmed ∙ two)
-        | inr kept ↦ timer.deadlock may kept
-            (inr (two, subst (λ (at : SpaceId). IsOutstanding own.past at) (one_space space Data one) outstanding))
-            stopped
-      ]
+  -- while a packet waits for room
+  timed_waiting : IsTimerByEvents begun own.past (state_in sender) sender.variables → may_send begun own.past ≡ true
+      → (space : SpaceId) (since : ℕ) → is_discarded space own.past ≡ false
+      → waiting_since sender.variables space ≡ Some since → HasTimer sender
+  timed_waiting timer may space since there held none =
+      let set = timer.waiting may space since there held in none-some set.time (sym (stopped none) ∙ set.set)
 
   -- the window holds a datagram back only if something is in flight
-  full_in_flight : (now size : ℕ) (space : SpaceId) (in_flight : Bool)
-      → transmit_reply c.words (state_in sender) sender.variables now size space in_flight ≡ Ok Full
+  full_in_flight : (now size : ℕ) (space : SpaceId) (in_flight ack : Bool)
+      → SaysOf sender space now size in_flight (Ok (Full ack))
       → size ≤ window_of c.words (state_in sender) → silent_bytes own.past ≤ 0 → 0 < flight_in no_numbers own.past
-  full_in_flight now size space in_flight said fits silent =
-      let full : is_full c.words (state_in sender) size ≡ true = said_full _ _ _ _ _
+  full_in_flight now size space in_flight ack says fits silent =
+      let full : is_full c.words (state_in sender) size ≡ true = (said_full _ _ _ _ _
       (is_checked sender.variables space in_flight) (is_full c.words (state_in sender) size)
-      _ said in
+      says.0 _ ack (sym says.2)).0 in
       let most = flight_all begun own.past (state_in sender) own.came silent in
       room (window_of c.words (state_in sender)) (bytes_in_flight (state_in sender)) size _ full fits most
     where
@@ -356,12 +353,11 @@ module _ {F Q R C K S M P : Type 0} {f : _} {c : _} {q : _} {m : _} {r : _} (sen
         ∙ free_of kept.validated kept.came kept.went bytes (sym flags ∙ is)
 
     not_blocked : (now size : ℕ) (space : SpaceId) (in_flight : Bool)
-        → transmit_reply c.words (state_in sender) sender.variables now size space in_flight ≡ Ok Blocked
-        → HasValidated validated log end → ⊥
-    not_blocked now size space in_flight said is = true≢false
+        → SaysOf sender space now size in_flight (Ok Blocked) → HasValidated validated log end → ⊥
+    not_blocked now size space in_flight says is = true≢false
         (sym (said_blocked _ _ _ _ _ (is_checked sender.variables space in_flight)
         (is_full c.words (state_in sender) size)
-        _ said) ∙ free (address ∙ is) size)
+        says.0 _ (sym says.2)) ∙ free (address ∙ is) size)
 
     module _ (discarded : (space : SpaceId) → is_discarded space own.past ≡ was_discarded end space log)
         (knows : known_of sender.variables ≡ known_at end log) where
@@ -376,14 +372,31 @@ module _ {F Q R C K S M P : Type 0} {f : _} {c : _} {q : _} {m : _} {r : _} (sen
       kept_by kept = ap (λ (space : SpaceId). is_discarded space own.past) same_deadlock_space
           ∙ discarded (deadlock_space log end) ∙ kept
 
-      timed_if : IsTimerByEvents begun own.past (state_in sender) sender.variables → MayProbe validated log end
-          → 0 < flight_in no_numbers own.past → HasTimer sender
+      confirmed_as : (confirmed : Bool) → (known_at end log).confirmed ≡ confirmed
+          → sender.variables.is_handshake_confirmed ≡ confirmed
+      confirmed_as confirmed is = ap (λ (known : Known). known.confirmed) knows ∙ is
+
+      -- while bytes are in flight that are probed for
+      timed_if : IsTimerByEvents begun own.past (state_in sender) sender.variables → HasValidated validated log end
+          → 0 < flight_in (λ space n. is_unprobed log end space) own.past → HasTimer sender
       timed_if timer may more =
-          let one = outstanding_by more in
-          timed_by timer (true_first _ _ (address ∙ may.address)) (elim may.keys [
-            | inl confirmed ↦ inl (ap (λ (known : Known). known.confirmed) knows ∙ confirmed)
-            | inr kept ↦ inr (kept_by kept)
-          ]) one.0 one.1
+          let one = outstanding_by (λ space n. is_unprobed log end space) more in
+          timed_by timer (true_first _ _ (address ∙ may)) one.0
+          (ap (λ confirmed. same_space one.0 Data && not confirmed) (confirmed_as _ refl) ∙ one.2) one.3
+
+      -- once the handshake is confirmed, while any are
+      timed_confirmed : IsTimerByEvents begun own.past (state_in sender) sender.variables
+          → HasValidated validated log end → (known_at end log).confirmed ≡ true
+          → 0 < flight_in no_numbers own.past → HasTimer sender
+      timed_confirmed timer may confirmed more =
+          let one = outstanding_by no_numbers more in
+          timed_by timer (true_first _ _ (address ∙ may)) one.0
+          (ap (λ confirmed. same_space one.0 Data && not confirmed) (confirmed_as true confirmed)
+          ∙ never_unprobed (same_space one.0 Data)) one.3
+        where
+          never_unprobed : (is_data : Bool) → (is_data && false) ≡ false
+          never_unprobed true = refl
+          never_unprobed false = refl
 
 -- ---- both endpoints
 
@@ -398,23 +411,52 @@ module _ {F Q R C K S M P : Type 0} {f : _} {c : _} {q : _} {m : _} {r : _} wher
       (goes : Continues GoesOnQuietly old new) (timed : IsTimedAs (known_at end log) new) (space : SpaceId)
       (now size : ℕ) where
     held_with_cause : (held : Transmission) → PermitsAnswer space now size (Ok (Held held)) old
-        → IsHeldWithCause validated log end size held old new
-    held_with_cause Blocked permits =
+        → WaitsIfFull space (Ok (outgoing.Held held)) new → IsHeldWithCause validated log end space size held old new
+    held_with_cause Blocked permits waits =
         not_blocked old own validated log end logged.address now size space permits.0 permits.1.0
-    held_with_cause Full permits = λ may fits.
-        let on = goes.from own.config own.start own.random own.past own.came in
-        let some = full_in_flight old own now size space permits.0 permits.1.0 fits logged.silent in
-        let least = still_flying_after own.past on.0 on.2 in
-        timed_if new (record {
-          config = own.config;
-          start = own.start;
-          random = own.random;
-          past = on.0;
-          came = on.1;
-        }) validated log end (on.2.validated own.config.validated ∙ logged.address)
-        (λ there. on.2.discarded there ∙ logged.discarded there) timed.1
-        (timed.0 own.config own.start own.random on.0 on.1) may (omega (arith, some, least))
-    held_with_cause held permits = tt
+    held_with_cause (Full ack) permits waits = λ may goes fits. by may goes fits (known_at end log).confirmed refl
+      where
+        by : HasValidated validated log end → is_unprobed log end space ≡ false
+            → ((known_at end log).confirmed ≡ true → size ≤ window_of c.words (state_in old))
+            → (confirmed : Bool) → (known_at end log).confirmed ≡ confirmed → HasTimer new
+        by may unprobed fits true confirmed =
+            let on = goes.from own.config own.start own.random own.past own.came in
+            let came : HasPast new = record {
+              config = own.config;
+              start = own.start;
+              random = own.random;
+              past = on.0;
+              came = on.1;
+            } in
+            let some = full_in_flight old own now size space permits.0 ack permits.1.0 (fits confirmed) logged.silent in
+            let least = still_flying_after own.past on.0 on.2 in
+            timed_confirmed new came validated log end (on.2.validated own.config.validated ∙ logged.address)
+            (λ there. on.2.discarded there ∙ logged.discarded there) timed.1
+            (timed.0 own.config own.start own.random on.0 on.1) may confirmed (omega (arith, some, least))
+        by may unprobed fits false unconfirmed =
+            let on = goes.from own.config own.start own.random own.past own.came in
+            let came : HasPast new = record {
+              config = own.config;
+              start = own.start;
+              random = own.random;
+              past = on.0;
+              came = on.1;
+            } in
+            let handshake : same_space space Data ≡ false =
+            not_data (same_space space Data) (rw unconfirmed at unprobed) in
+            let held = waits handshake in
+            let kept : is_discarded space on.0 ≡ false =
+            sym (came.came.state_after.discarded space) ∙ held.2 in
+            let never : new.variables.is_handshake_confirmed ≡ false =
+            ap (λ (known : Known). known.confirmed) timed.1 ∙ unconfirmed in
+            timed_waiting new came (timed.0 own.config own.start own.random on.0 on.1)
+            (true_first _ _ (on.2.validated own.config.validated ∙ logged.address ∙ may)) space held.0 kept
+            (ap (λ confirmed. if confirmed then None else since_in space new.variables.full_since) never ∙ held.1)
+          where
+            not_data : (is_data : Bool) → (is_data && true) ≡ false → is_data ≡ false
+            not_data true is = absurd (true≢false is)
+            not_data false is = refl
+    held_with_cause held permits waits = tt
 
   timed_logged : (validated : Bool) (log : PairLog) (end : End) (sender : Sender F Q R C K S M P f c q m r)
       (own : HasPast sender) → IsLogged validated log end own.config.validated own.past
@@ -422,10 +464,10 @@ module _ {F Q R C K S M P : Type 0} {f : _} {c : _} {q : _} {m : _} {r : _} wher
   timed_logged validated log end sender own logged timed =
       let events = timed.0 own.config own.start own.random own.past own.came in record {
         in_flight = λ may more. timed_if sender own validated log end logged.address logged.discarded timed.1 events may
-            (let least = logged.flight no_numbers in omega (arith, more, least));
+            (let least = logged.flight (λ space n. is_unprobed log end space) in omega (arith, more, least));
         unknown = λ address keys unknown none. events.deadlock (true_first _ _ (logged.address ∙ address))
             (kept_by sender own validated log end logged.address logged.discarded timed.1 keys)
-            (inl (ap (λ (known : Known). known.address) timed.1 ∙ unknown))
+            (ap (λ (known : Known). known.address) timed.1 ∙ unknown)
             (sym (own.came.state_after.timers LossDetection) ∙ none);
       }
 
@@ -445,15 +487,15 @@ module _ {F Q R C K S M P : Type 0} {f : _} {c : _} {q : _} {m : _} {r : _} wher
           | inr kept ↦ kept
         ]) knows
 
-    flying : FollowsHandshake validated log → (end : End) → 0 < flight end log
+    flying : FollowsHandshake validated log → (end : End) → 0 < probed_flight log end
         → HasTimer client ⊎ HasValidated validated log Server × HasTimer server
     flying follows Client more =
-        inl (timed.0.in_flight (record { address = client_validated log; keys = follows.keys Client }) more)
+        inl (timed.0.in_flight (client_validated log) more)
     flying follows Server more = by (has_validated Server validated log) refl
       where
         by : (is : Bool) → has_validated Server validated log ≡ is
             → HasTimer client ⊎ HasValidated validated log Server × HasTimer server
-        by true is = inr (is, timed.1.in_flight (record { address = is; keys = follows.keys Server }) more)
+        by true is = inr (is, timed.1.in_flight is more)
         by false is = inl (limited follows (λ yes. true≢false (sym yes ∙ is)))
 
     pub never_both : AreNeverStuck validated log client server
@@ -476,15 +518,16 @@ module _ {F Q R C K S M : Type 0} {f : _} {c : _} {q : _} {m : _} {r : _}
       (client_after server_after : Sender F Q R C K S M (List ℕ) f c q m r)
       → TurnsAt end (λ (old new : Sender F Q R C K S M (List ℕ) f c q m r). Continues GoesOnQuietly old new) client
       server client_after server_after → HoldsAt end (PermitsAnswer space now size (Ok (Held held))) client server
+      → HoldsAt end (WaitsIfFull space (Ok (outgoing.Held held))) client_after server_after
       → ((known : End → Known) → AreTimedAs known client server → AreTimedAs known client_after server_after)
       → IfTied client server wire client_waits server_waits (λ validated log. HoldsWithCause client server
       client_after server_after validated log (steps.Send end space now size, Ok (Held held)))
-  held_at Client space now size held client_after server_after turn permits timers validated log tied have =
+  held_at Client space now size held client_after server_after turn permits waits timers validated log tied have =
       held_with_cause validated log Client client client_after tied.ends.own tied.ends.logged turn.0
-      (timers (λ end. known_at end log) have).0 space now size held permits
-  held_at Server space now size held client_after server_after turn permits timers validated log tied have =
+      (timers (λ end. known_at end log) have).0 space now size held permits waits
+  held_at Server space now size held client_after server_after turn permits waits timers validated log tied have =
       held_with_cause validated log Server server server_after tied.ends.peer tied.ends.peer_logged turn.0
-      (timers (λ end. known_at end log) have).1 space now size held permits
+      (timers (λ end. known_at end log) have).1 space now size held permits waits
 
 module _ {F Q R C K S M : Type 0} {f : _} {c : _} {q : _} {m : _} {r : _}
     (client server : Sender F Q R C K S M (List ℕ) f c q m r) (wire : List WirePacket)

@@ -1,7 +1,7 @@
 -- The loss detection timer acts at its time. What is due has a cause: a packet that is lost by its age, an
--- ack-eliciting packet in flight, or a possible deadlock.
-use Rattle.std.proofs.Common.{◌≡◌, ◌≤◌, ℕ, ◌||◌, true, false, Bool, Option, None, Some, option_map, Result, Ok, Err, inl, inr, refl, sym, ap, subst, ◌∙◌, arith}
-use Rattle.std.specs.Prelude.{IsSomeAnd, if◌then◌else◌, nat_le, not}
+-- ack-eliciting packet in flight, a packet that waits for room, or a client that does not know its address validated.
+use Rattle.std.proofs.Common.{◌≡◌, ◌≢◌, ◌⊎◌, ◌≤◌, ℕ, ◌||◌, true, false, Bool, Option, None, Some, option_map, Result, Ok, Err, inl, inr, refl, sym, ap, subst, ◌∙◌, arith}
+use Rattle.std.specs.Prelude.{IsSomeAnd, if◌then◌else◌, nat_le}
 use Rattle.std.proofs.lemmas.Bool.Decides.{nat_tests}
 use Rattle.std.proofs.lemmas.Option.{none-some, same_Some}
 use Rattle.std.specs.Option.{option_and_then}
@@ -9,7 +9,8 @@ use Rattle.recovery_base.specs.declared.below.SpaceId.{SpaceId}
 use Rattle.recovery_losses.specs.declared.due.Due.{Due}
 use Rattle.recovery_losses.specs.declared.due.Due.TheVariants.{AntiDeadlock, Losses, Probes}
 use Rattle.recovery_losses.specs.declared.variables.Variables.{Variables}
-use Rattle.recovery_losses.specs.Variables.{is_probe_due, timed_out}
+use Rattle.recovery_losses.specs.Timeouts.{probe_start_of}
+use Rattle.recovery_losses.specs.Variables.{is_address_validated, is_probe_due, timed_out, waiting_since}
 use Rattle.recovery_spaces.specs.Discarded.{is_discarded}
 use Rattle.recovery_spaces.specs.Spaces.{Space, packets_of}
 use Rattle.recovery_paths.specs.PathStates.{is_blocked}
@@ -23,7 +24,7 @@ use Rattle.recovery_sender.specs.Promises.Liveness.{IsAckOwed, loss_time_in}
 use Rattle.recovery_sender.specs.Senders.{state_in}
 use Rattle.recovery_sender.specs.Spaces.{space_in}
 use Rattle.recovery_sender.specs.Timeouts.{IsEarly, TimeoutResult}
-use Rattle.recovery_sender.specs.Timer.{behind, deadlock_space, due_of, has_eliciting, loss_due, may_deadlock, probe_due, probe_in, pto_of, waits, least_datagram}
+use Rattle.recovery_sender.specs.Timer.{behind, deadlock_space, due_of, has_eliciting, loss_due, probe_due, probe_in, pto_of, waits, least_datagram}
 use Rattle.recovery_sender.proofs.DueLaws.{IfDue, or_has, soonest_has, unless_has}
 use Rattle.recovery_pair.specs.AddressKnown.{Known}
 use Rattle.recovery_pair.specs.Expires.{ActsInTime, AsksIn, ExpiresBy, IsDue, IsLossDue, expired}
@@ -35,8 +36,8 @@ use Rattle.recovery_pair.proofs.FilledLaws.{here_itself}
 module _ {K P M : Type 0} (recovery : RecoveryState K P M) (variables : Variables) where
   abbrev CauseOf : ℕ → Due → Type 0
   CauseOf time (Losses space) = loss_time_in recovery space ≡ Some time
-  CauseOf time (Probes space) = IsAckOwed recovery variables space
-  CauseOf time (AntiDeadlock space) = may_deadlock recovery variables ≡ true
+  CauseOf time (Probes space) = IsAckOwed recovery variables space ⊎ (waiting_since variables space ≢ None)
+  CauseOf time (AntiDeadlock space) = is_address_validated variables ≡ false
 
   abbrev HasCause : Option (ℕ × Due) → Type 0
   HasCause = IfDue (λ due. CauseOf due.0 due.1)
@@ -49,25 +50,30 @@ module _ {K P M : Type 0} (recovery : RecoveryState K P M) (variables : Variable
   probe : (space : SpaceId) → waits recovery variables space ≡ false → (there : Option (Space P M))
       → space_in recovery space ≡ there → HasCause (option_and_then (probe_in recovery variables space) there)
   probe space goes None is = tt
-  probe space goes (Some here) is = by (has_eliciting (packets_of here)) refl here.time_of_last_ack_eliciting_packet
+  probe space goes (Some here) is = by (has_eliciting (packets_of here)) refl (waiting_since variables space) refl
+      here.time_of_last_ack_eliciting_packet
     where
-      by : (elicits : Bool) → has_eliciting (packets_of here) ≡ elicits → (sent : Option ℕ)
-          → HasCause (if elicits then option_map (λ sent. (behind sent (pto_of recovery variables space), Probes space))
-          sent else None)
-      by false elicits sent = tt
-      by true elicits None = tt
-      by true elicits (Some sent) = record { here = here; lives = is; elicits = elicits; goes = goes }
+      by : (elicits : Bool) → has_eliciting (packets_of here) ≡ elicits → (since : Option ℕ)
+          → waiting_since variables space ≡ since → (sent : Option ℕ)
+          → HasCause (option_map (λ start. (behind start (pto_of recovery variables space), Probes space))
+          (probe_start_of elicits since sent))
+      by true elicits since held None = tt
+      by true elicits since held (Some sent) =
+          inl (record { here = here; lives = is; elicits = elicits; goes = goes })
+      by false elicits None held sent = tt
+      by false elicits (Some since) held None = inr (λ none. none-some since (sym none ∙ held))
+      by false elicits (Some since) held (Some sent) = inr (λ none. none-some since (sym none ∙ held))
 
   waiting : (space : SpaceId) (test : Bool) → waits recovery variables space ≡ test
       → HasCause (if test then None else option_and_then (probe_in recovery variables space) (space_in recovery space))
   waiting space true is = tt
   waiting space false is = probe space is (space_in recovery space) refl
 
-  deadlock : (may : Bool) → may_deadlock recovery variables ≡ may → (gone : Bool) (time : ℕ)
-      → HasCause (if not may || gone then None else Some (time, AntiDeadlock (deadlock_space recovery variables)))
-  deadlock false is gone time = tt
-  deadlock true is true time = tt
-  deadlock true is false time = is
+  deadlock : (known : Bool) → is_address_validated variables ≡ known → (gone : Bool) (time : ℕ)
+      → HasCause (if known || gone then None else Some (time, AntiDeadlock (deadlock_space recovery variables)))
+  deadlock true is gone time = tt
+  deadlock false is true time = tt
+  deadlock false is false time = is
 
   due_caused : HasCause (due_of recovery variables)
   due_caused = let Cause = λ (due : ℕ × Due). CauseOf due.0 due.1 in

@@ -19,6 +19,7 @@ use Rattle.recovery_events.specs.declared.event.Event.{Event}
 use Rattle.recovery_events.specs.declared.event.Event.TheVariants.{Congestion, NewPath, ResetPath, RevertPath}
 use Rattle.recovery_spaces.specs.Discarded.{is_discarded}
 use Rattle.recovery_spaces.specs.Packets.{Packet, Packets, packet_at}
+use Rattle.recovery_losses.specs.Frames.{received_at}
 use Rattle.recovery_losses.specs.declared.frames.Ack.{Ack}
 use Rattle.recovery_losses.specs.declared.looks.LossPass.{LossPass}
 use Rattle.recovery_losses.specs.Losses.{IsOneOf, is_counted, last_counted, later_of, sent_counted}
@@ -294,12 +295,13 @@ module _ {F Q R C K S M P : Type 0} {f : _} {c : _} {q : _} {m : _} {r : _} (old
             (call_quietly [] old.variables old new (is.none none).does tt))
         by (number ∷ numbers) some =
             let does = is.some (λ none. absurd cc) in
-            finds _ _ _ now (last_lost space now true acked.losses does.sampled)
+            finds _ _ _ now (last_lost space (received_at ack now) true acked.losses does.sampled)
             (λ congests may. acknowledges_ending space now ranges ack is.elicits old new acked does congests unmarked
             may)
             (λ sent found. (
-            let (n, one, time) = was_lost space now true acked.losses (acked_with space acked any_congestion)
-            does.sampled (sampled_ending space now ranges ack is.elicits old new acked does any_congestion) sent found
+            let (n, one, time) = was_lost space (received_at ack now) true acked.losses
+            (acked_with space acked any_congestion) does.sampled
+            (sampled_ending space now ranges ack is.elicits old new acked does any_congestion) sent found
             in (space, n, lost_here space acked.losses n one, time)))
 
     -- the loss detection timer

@@ -142,12 +142,12 @@ module _ {F K Q S M P : Type 0} (built : F → ℕ → ℕ → K) (words : Contr
       then_same one leads.0 other leads.3 leads.1.steps.spaces
   transmit_same now size false Transmitted one other leads =
       then_same one leads.0 other leads.3 leads.1.steps.spaces
-  transmit_same now size true (Delayed until) one other leads =
+  transmit_same now size true (Delayed until ack) one other leads =
       then_same one leads.0 other leads.3 leads.1.steps.spaces
-  transmit_same now size false (Delayed until) one other leads =
+  transmit_same now size false (Delayed until ack) one other leads =
       then_same one leads.0 other leads.3 leads.1.steps.spaces
   transmit_same now size checked Blocked one other leads = all_same one other leads
-  transmit_same now size checked Full one other leads = all_same one other leads
+  transmit_same now size checked (Full ack) one other leads = all_same one other leads
 
   rearmed_same : (kept : Variables) (one other : RecoveryState K P M)
       → RearmsTimer built words queue kept one other → AreSame one other
@@ -155,12 +155,12 @@ module _ {F K Q S M P : Type 0} (built : F → ℕ → ℕ → K) (words : Contr
   rearmed_same kept one other (inr sets) = timer_same _ one other sets.1
 
 module _ {F Q R C K S M P : Type 0} {f : _} {c : _} {q : _} {m : _} {r : _} where
-  pub spaces_kept : (now size : ℕ) (checked : Bool) (kept : Variables) (old new : Sender F Q R C K S M P f c q m r)
-      (result : Result Transmission SenderError)
-      → IfOk result (λ sent. CompletesCall (transmit_steps now size checked sent) kept old new)
+  pub spaces_kept : (now size : ℕ) (checked : Bool) (kept : Transmission → Variables)
+      (old new : Sender F Q R C K S M P f c q m r) (result : Result Transmission SenderError)
+      → IfOk result (λ sent. CompletesCall (transmit_steps now size checked sent) (kept sent) old new)
       → OnErr result (new ≡ old) → KeepsSpaces old new
   spaces_kept now size checked kept old new (Ok sent) does same space =
-      rearmed_same _ _ _ kept does.between (state_in new) does.sets space
+      rearmed_same _ _ _ (kept sent) does.between (state_in new) does.sets space
       ∙ transmit_same _ _ _ now size checked sent (state_in old) does.between does.leads space
   spaces_kept now size checked kept old new (Err refusal) does same space =
       ap (λ (at : Sender F Q R C K S M P f c q m r). space_of space (state_in at).spaces) same

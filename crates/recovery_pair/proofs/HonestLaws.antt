@@ -131,6 +131,7 @@ module _ {F Q R C K S M P : Type 0} {f : _} {c : _} {q : _} {m : _} {r : _} (sen
       ⊎ (refusal ≡ refused.Event NoMemory) → IsSpare refusal
   spared refusal (inr memory) = inl memory
   spared refused.Unsent (inl (whole, unsent)) = absurd (unsent (all_sent ranges refl))
+  spared refused.DataSpace (inl never) = absurd never
   spared (refused.Event refusal) (inl (inl (gone, is))) = inr (ap (λ (r : Refusal). refused.Event r) is)
   spared (refused.Event refusal) (inl (inr (inl (kept, bad, is)))) = absurd (true≢false (sym fine ∙ bad))
   spared (refused.Event refusal) (inl (inr (inr (whole, were, at, within, said)))) = checked at refusal within said

@@ -13,6 +13,7 @@ use Rattle.recovery_events.specs.declared.event.Event.{Event}
 use Rattle.recovery_events.specs.declared.event.Event.TheVariants as events
 use Rattle.recovery_events.specs.declared.event.Refusal.{Refusal}
 use Rattle.recovery_events.specs.declared.event.Refusal.TheVariants.{NoMemory, SpaceDiscarded}
+use Rattle.recovery_losses.specs.Frames.{received_at}
 use Rattle.recovery_losses.specs.declared.frames.Ack.{Ack}
 use Rattle.recovery_losses.specs.declared.looks.LossPass.{LossPass}
 use Rattle.recovery_losses.specs.declared.variables.Variables.{Variables}
@@ -39,6 +40,7 @@ use Rattle.recovery_sender.specs.declared.sender.packets.Transmission.{Transmiss
 use Rattle.recovery_sender.specs.declared.sender.packets.Transmission.TheVariants as transmission
 use Rattle.recovery_sender.specs.declared.sender.probes.Timeout.{Timeout}
 use Rattle.recovery_sender.specs.declared.sender.probes.Timeout.TheVariants.{Nothing, Lost, Probe}
+use Rattle.recovery_sender.proofs.EventLaws.{failed_takes}
 use Rattle.recovery_pair.specs.declared.steps.AckOutcome.TheVariants.{Taken}
 use Rattle.recovery_pair.specs.Carried.{Carries, CarriesNone, CarriesOn, ContentsTurn, all_sent_with, amount_of, amount_with, is_probing, lost_by_ack, lost_by_timeout, lost_there, losing, none_lost, probed_there, sending_with, sent_with, taken_if, taken_there, taking}
 use Rattle.recovery_pair.specs.Logs.{part}
@@ -456,26 +458,26 @@ module _ {F K Q S M P : Type 0} (built : F → ℕ → ℕ → K) (words : Contr
             (still_event queue.contents (events.Lost there number) (Err NoMemory) tt past) rest.2,
       )
 
-  detecting_loses : (look : LossPass) (attempts : List LossAttempt) (found : Option ℕ) (losses : Losses) (bytes : ℕ)
-      (sent time : Option ℕ) → losses.numbers.items ≡ declared_in attempts
+  detecting_loses : (look : LossPass) (now : ℕ) (attempts : List LossAttempt) (found : Option ℕ) (losses : Losses)
+      (bytes : ℕ) (sent time : Option ℕ) → losses.numbers.items ≡ declared_in attempts
       → ForSome losses.probe (λ number. found ≡ Some number) → (old new : RecoveryState K P M)
-      → Leads (detecting look attempts found losses bytes sent time) old new → (past : History Q S M P)
+      → Leads (detecting look now attempts found losses bytes sent time) old new → (past : History Q S M P)
       → ReachedBy beginning past old → Arrives (losing (λ space. lost_of space look.space losses)) past new
-  detecting_loses look attempts found losses bytes sent time declared probe old new leads past came =
+  detecting_loses look now attempts found losses bytes sent time declared probe old new leads past came =
       let there = look.space in
       let last : List (SenderStep Q S M P) = loss_time there time ∷ [] in
       let fourth : List (SenderStep Q S M P) = trying there (probe_attempts found losses.probe) ++ last in
-      let third : List (SenderStep Q S M P) = congested look.at losses.is_persistent bytes sent ++ fourth in
-      let second : List (SenderStep Q S M P) = ended look.at losses.is_black_hole losses.numbers.items ++ third in
+      let third : List (SenderStep Q S M P) = congested now losses.is_persistent bytes sent ++ fourth in
+      let second : List (SenderStep Q S M P) = ended now losses.is_black_hole losses.numbers.items ++ third in
       let a = parts (trying there attempts) second old new leads in
-      let b = parts (ended look.at losses.is_black_hole losses.numbers.items) third a.0 new a.2 in
-      let d = parts (congested look.at losses.is_persistent bytes sent) fourth b.0 new b.2 in
+      let b = parts (ended now losses.is_black_hole losses.numbers.items) third a.0 new a.2 in
+      let d = parts (congested now losses.is_persistent bytes sent) fourth b.0 new b.2 in
       let e = parts (trying there (probe_attempts found losses.probe)) last d.0 new d.2 in
       let one = trying_loses there attempts old a.0 a.1 past came in
-      let two = leads_still (ended look.at losses.is_black_hole losses.numbers.items) a.0 b.0
-      (still_ended Q S M P queue.contents look.at losses.is_black_hole losses.numbers.items) b.1 one.0 one.1 in
-      let three = leads_still (congested look.at losses.is_persistent bytes sent) b.0 d.0
-      (still_congested Q S M P queue.contents look.at losses.is_persistent bytes sent) d.1 two.0 two.1 in
+      let two = leads_still (ended now losses.is_black_hole losses.numbers.items) a.0 b.0
+      (still_ended Q S M P queue.contents now losses.is_black_hole losses.numbers.items) b.1 one.0 one.1 in
+      let three = leads_still (congested now losses.is_persistent bytes sent) b.0 d.0
+      (still_congested Q S M P queue.contents now losses.is_persistent bytes sent) d.1 two.0 two.1 in
       let four = trying_loses there (probe_attempts found losses.probe) d.0 e.0 e.1 three.0 three.1 in
       let five = leads_still last e.0 new tt e.2 four.0 four.1 in
       let some = at_space there (declared_in attempts) in
@@ -535,15 +537,15 @@ module _ {F Q R C K S M P : Type 0} {f : _} {c : _} {q : _} {m : _} {r : _} wher
       → (result : Result (Answer Q) SenderError) → IsEventResult event old new result → CarriesNone old new
   event_carries event old new = passes_so (still_along q.contents) old new event
 
-  pub transmit_carries : (now bytes : ℕ) (checked : Bool) (kept : Variables)
+  pub transmit_carries : (now bytes : ℕ) (checked : Bool) (kept : Transmission → Variables)
       (old new : Sender F Q R C K S M P f c q m r) (result : Result Transmission SenderError)
-      → IfOk result (λ sent. CompletesCall (transmit_steps now bytes checked sent) kept old new)
+      → IfOk result (λ sent. CompletesCall (transmit_steps now bytes checked sent) (kept sent) old new)
       → OnErr result (new ≡ old) → CarriesNone old new
   transmit_carries now bytes checked kept old new (Ok transmission.Transmitted) does same =
-      call_carries _ kept old new does (tt, tt)
-  transmit_carries now bytes checked kept old new (Ok (transmission.Delayed until)) does same =
-      call_carries _ kept old new does (tt, tt)
-  transmit_carries now bytes checked kept old new (Ok other) does same = call_carries [] kept old new does tt
+      call_carries _ (kept transmission.Transmitted) old new does (tt, tt)
+  transmit_carries now bytes checked kept old new (Ok (transmission.Delayed until ack)) does same =
+      call_carries _ (kept (transmission.Delayed until ack)) old new does (tt, tt)
+  transmit_carries now bytes checked kept old new (Ok other) does same = call_carries [] (kept other) old new does tt
   transmit_carries now bytes checked kept old new (Err refusal) does same = same_carries old new same
 
   -- ---- contents
@@ -559,10 +561,11 @@ module _ {F Q R C K S M P : Type 0} {f : _} {c : _} {q : _} {m : _} {r : _} wher
 
   -- an event that fails
   pub failed_carries : (event : Event Q S M P) (old new : Sender F Q R C K S M P f c q m r)
-      → ((refusal : Refusal) → IsStill q.contents event (Err refusal)) → (refusal : SenderError)
-      → IsEventResult event old new (Err refusal) → CarriesNone old new
-  failed_carries event old new still (refused.Event refusal) takes = steps_carry _ old new takes (still refusal, tt)
-  failed_carries event old new still refused.Unsent never = absurd never
+      → ((refusal : Refusal) → IsStill q.contents event (Err refusal)) → changes_path event ≡ false
+      → (refusal : SenderError) → IsEventResult event old new (Err refusal) → CarriesNone old new
+  failed_carries event old new still stays (refused.Event refusal) is =
+      steps_carry _ old new (failed_takes event old new stays refusal is) (still refusal, tt)
+  failed_carries event old new still stays other never = absurd never
 
   pub probe_carries : (space : SpaceId) (immediate : Bool) (streams : S) (queue : Q)
       (old new : Sender F Q R C K S M P f c q m r) → ProbeResult space immediate streams old new (Ok queue)
@@ -621,10 +624,10 @@ module _ {F Q R C K S M P : Type 0} {f : _} {c : _} {q : _} {m : _} {r : _} wher
         (one.0, one.1, losing_as q.contents some other same past one.0 one.2));
   }
 
-  detects_carries : (space : SpaceId) (now : ℕ) (due_to_ack : Bool) (losses : Losses)
-      (old new : Sender F Q R C K S M P f c q m r) → DetectsLosses space now due_to_ack old losses new
+  detects_carries : (space : SpaceId) (now at : ℕ) (due_to_ack : Bool) (losses : Losses)
+      (old new : Sender F Q R C K S M P f c q m r) → DetectsLosses space now at due_to_ack old losses new
       → Carries (lost_so space losses) old new
-  detects_carries space now due_to_ack losses old new detects = by (largest_in (state_in old) space) refl
+  detects_carries space now at due_to_ack losses old new detects = by (largest_in (state_in old) space) refl
     where
       by : (found : Option ℕ) → largest_in (state_in old) space ≡ found → Carries (lost_so space losses) old new
       by None none =
@@ -634,11 +637,11 @@ module _ {F Q R C K S M P : Type 0} {f : _} {c : _} {q : _} {m : _} {r : _} wher
           is.0.numbers (ap option_to_list is.0.probe)) old new (steps_carry _ old new is.1 tt)
       by (Some largest) is =
           let looked = detects.looks largest is in
-          let look : LossPass = look_of (state_in old) old.variables space now due_to_ack largest in
+          let look : LossPass = look_of (state_in old) old.variables space at due_to_ack largest in
           let packets = packets_in (state_in old) space in
           record {
             from = λ config start random past came.
-                detecting_loses f.built c.words (queue_model q.contents q.words q.blank) config start random look
+                detecting_loses f.built c.words (queue_model q.contents q.words q.blank) config start random look now
                 looked.0 looked.2.found losses
                 (min (bytes_counted look packets losses.numbers.items) largest_u64)
                 (last_counted look packets losses.numbers.items) looked.1 looked.2.declared looked.2.probe
@@ -648,7 +651,7 @@ module _ {F Q R C K S M P : Type 0} {f : _} {c : _} {q : _} {m : _} {r : _} wher
   by_time_carries : (space : SpaceId) (now : ℕ) (losses : Losses) (old new : Sender F Q R C K S M P f c q m r)
       → DetectsByTime space now old losses new → Carries (lost_so space losses) old new
   by_time_carries space now losses old new by = carries_then (lost_so space losses) old by.behind new
-      (detects_carries space now false losses old by.behind by.detects)
+      (detects_carries space now now false losses old by.behind by.detects)
       (call_carries [] _ by.behind new by.does tt)
 
   pub timeout_carries : (now : ℕ) (old new : Sender F Q R C K S M P f c q m r) (result : Result Timeout SenderError)
@@ -671,9 +674,9 @@ module _ {F Q R C K S M P : Type 0} {f : _} {c : _} {q : _} {m : _} {r : _} wher
       (then_carries turn is.ended is.sampled new (samples_so (still_along q.contents) is.ended is.sampled
       (λ delay rtt answer. tt) space ack.delay _ is.samples)
       (carries_then turn is.sampled is.looked new
-      (detects_carries space now true acked.losses is.sampled is.looked is.detects)
+      (detects_carries space now (received_at ack now) true acked.losses is.sampled is.looked is.detects)
       (carries_then (losing none_lost) is.looked is.heard new
-      (ecn_so (still_along q.contents) is.looked is.heard space now _ _ _ _ _ unmarked is.compares) (call_carries [] _
+      (ecn_so (still_along q.contents) is.looked is.heard space now _ _ _ _ _ _ unmarked is.compares) (call_carries [] _
       is.heard new is.does tt)))))
 
   pub ack_carries : (space : SpaceId) (now : ℕ) (ranges : List (ℕ × ℕ)) (ack : Ack)

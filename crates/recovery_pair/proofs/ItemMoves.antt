@@ -201,6 +201,24 @@ module _ {F Q R C K S M : Type 0} {f : _} {c : _} {q : _} {m : _} {r : _} where
         let two = empty_part (same_space space there) (measure []) none in omega (arith, one, two));
   }
 
+  -- a packet without items is sent
+  pub sends_alone : (space : SpaceId) (n : ℕ) (queue items : List ℕ)
+      (old tracked new : Sender F Q R C K S M (List ℕ) f c q m r) (waits after : List Waiting) → queue ≡ []
+      → items ≡ [] → Carries (sending_with space n queue) old tracked → CarriesNone tracked new → after ≡ waits
+      → MovesItems None (Some (space, n, items)) none_lost (IsProbeWith false space items) (old, waits) (new, after)
+  sends_alone space n queue items old tracked new waits after empty none first second is = record {
+    takes = None;
+    probes = None;
+    goes = carries_then (sending_with space n items) old tracked new
+        (subst (λ (contents : List ℕ). Carries (sending_with space n contents) old tracked) (empty ∙ sym none) first)
+        second;
+    balances = λ measure least there. (
+        let one = empty_part (same_space space there) (measure items) (ap measure none ∙ least) in
+        let two = ap (waiting_in measure there) is in omega (arith, one, two));
+    probed = tt;
+    resent = λ own measure adds space none. refl;
+  }
+
   -- after a call that takes, sends and loses nothing
   then_moves : (hands : Option (SpaceId × List ℕ)) (sends : Option (SpaceId × ℕ × List ℕ)) (loses : SpaceId → List ℕ)
       (IsProbed : Option (SpaceId × List ℕ) → Type 0) (old between new : Sender F Q R C K S M (List ℕ) f c q m r)

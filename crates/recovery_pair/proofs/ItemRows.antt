@@ -1,6 +1,6 @@
 -- Worked rows of what is sent again and of probes, computed: with the right log and answer each promise holds, and with
 -- a wrong one it does not. Nothing rests on them.
-use Rattle.std.proofs.Common.{◌≡◌, ℕ, true, false, true≢false, [], ◌∷◌, length, Option, None, Some, Ok, refl, sym, arith}
+use Rattle.std.proofs.Common.{◌≡◌, ℕ, Bool, true, false, true≢false, [], ◌∷◌, length, Option, None, Some, Ok, refl, sym, arith}
 use Rattle.std.proofs.lemmas.List.{length-append}
 use Rattle.std.specs.Global.{Vec}
 use Rattle.recovery_base.specs.declared.below.SpaceId.TheVariants.{Data, Initial}
@@ -157,11 +157,11 @@ held_back held = (Send Client Data 10 60, Ok (Held held))
 the_limit_may_block_it : ProbesForFlight asks (held_back Blocked)
 the_limit_may_block_it asked = refl
 
-the_window_may_not : ¬ ProbesForFlight asks (held_back Full)
-the_window_may_not probes = absurd (let blocked = probes refl in cc)
+the_window_may_not : (ack : Bool) → ¬ ProbesForFlight asks (held_back (Full ack))
+the_window_may_not ack probes = absurd (let blocked = probes refl in cc)
 
-nor_the_pacer : (until : ℕ) → ¬ ProbesForFlight asks (held_back (Delayed until))
-nor_the_pacer until probes = absurd (let blocked = probes refl in cc)
+nor_the_pacer : (until : ℕ) (ack : Bool) → ¬ ProbesForFlight asks (held_back (Delayed until ack))
+nor_the_pacer until ack probes = absurd (let blocked = probes refl in cc)
 
 it_may_not_be_idle : ¬ ProbesForFlight asks (Send Client Data 10 60, Ok Nothing)
 it_may_not_be_idle probes = absurd (probes refl refl)
@@ -169,7 +169,7 @@ it_may_not_be_idle probes = absurd (probes refl refl)
 another_space_may_idle : ProbesForFlight asks (Send Client Initial 10 60, Ok Nothing)
 another_space_may_idle asked keys = absurd (true≢false (sym asked))
 
-the_server_may_be_full : ProbesForFlight asks (Send Server Data 10 60, Ok (Held Full))
+the_server_may_be_full : ProbesForFlight asks (Send Server Data 10 60, Ok (Held (Full false)))
 the_server_may_be_full asked = absurd (true≢false (sym asked))
 
 it_may_without_keys : ProbesForFlight ((Local Client (Expire 9), Ok (Expired (Probe Data 2)))
@@ -177,7 +177,7 @@ it_may_without_keys : ProbesForFlight ((Local Client (Expire 9), Ok (Expired (Pr
 it_may_without_keys asked keys = absurd (true≢false keys)
 
 -- another step comes first
-it_lapses : ProbesForFlight ((Local Client (Discard Initial 9), Ok Done) ∷ asks) (held_back Full)
+it_lapses : ProbesForFlight ((Local Client (Discard Initial 9), Ok Done) ∷ asks) (held_back (Full false))
 it_lapses asked = absurd asked
 
 it_is_not_permitted : ¬ ProbesForFlight asks (held_back Transmitted)

@@ -25,6 +25,7 @@ use Rattle.recovery_sender.specs.declared.sender.acks.Acknowledged.{Acknowledged
 use Rattle.recovery_sender.specs.declared.sender.probes.Timeout.{Timeout}
 use Rattle.recovery_sender.specs.declared.sender.probes.Timeout.TheVariants.{Lost, Nothing, Probe}
 use Rattle.recovery_sender.proofs.PersistenceLaws.{detects_least}
+use Rattle.recovery_sender.proofs.EventLaws.{failed_takes}
 use Rattle.recovery_pair.specs.declared.steps.End.{End}
 use Rattle.recovery_pair.specs.declared.steps.End.TheVariants.{Client, Server}
 use Rattle.recovery_pair.specs.LeastWindows.{IsLeastIf, KeepsLeastWindow, persists_by_timeout}
@@ -71,9 +72,10 @@ module _ {F Q R C K S M P : Type 0} {f : _} {c : _} {q : _} {m : _} {r : _} (old
     event_least event leaves stays (Ok answer) is least =
         let does = subst (λ (changes : Bool). IsAnsweredEvent event old new answer changes) stays is in
         completes_least leaves (after_event event answer old.variables) does least
-    event_least event leaves stays (Err (refused.Event refusal)) takes least =
-        leads_least event (Err refusal) (state_in old) (state_in new) leaves takes.leads least
-    event_least event leaves stays (Err refused.Unsent) never least = absurd never
+    event_least event leaves stays (Err (refused.Event refusal)) is least =
+        leads_least event (Err refusal) (state_in old) (state_in new) leaves
+        (failed_takes event old new stays refusal is).leads least
+    event_least event leaves stays (Err other) never least = absurd never
 
     -- the loss detection timer
     pub timeout_least : {IsSound : K → Type 0} (laws : ControllerLaws c.words IsSound)
@@ -84,7 +86,7 @@ module _ {F Q R C K S M P : Type 0} {f : _} {c : _} {q : _} {m : _} {r : _} (old
         let found = is.1 in
         sets_least (record old.variables { base = now }) found.does.between found.does.sets
         (subst (λ (at : RecoveryState K P M). IsWindowLeast c.words at) (sym found.does.leads)
-        (detects_least old found.behind laws starts space now false losses found.detects persistent))
+        (detects_least old found.behind laws starts space now now false losses found.detects persistent))
     timeout_least laws starts now (Ok Nothing) is never = absurd (true≢false (sym never))
     timeout_least laws starts now (Ok (Probe space count)) is never = absurd (true≢false (sym never))
     timeout_least laws starts now (Err refusal) is never = absurd (true≢false (sym never))

@@ -116,22 +116,22 @@ module _ {F Q R C K S M P : Type 0} {f : _} {c : _} {q : _} {m : _} {r : _} wher
       no_endings)
       (hears_then_quiet now 0 space n (Err (refused.Event refusal)) no_endings) old new takes
       (λ config start random past keeps. dropped_event past space now n eliciting refusal keeps.new)
-  dropped_by_call space now n eliciting refused.Unsent old new never = absurd never
+  dropped_by_call space now n eliciting other old new never = absurd never
 
   -- ---- datagrams, spaces and addresses
 
   -- whether a datagram may be sent
-  pub may_transmit : (now bytes : ℕ) (checked : Bool) (kept : Variables) (old new : Sender F Q R C K S M P f c q m r)
-      (result : Result Transmission SenderError)
-      → IfOk result (λ sent. CompletesCall (transmit_steps now bytes checked sent) kept old new)
+  pub may_transmit : (now bytes : ℕ) (checked : Bool) (kept : Transmission → Variables)
+      (old new : Sender F Q R C K S M P f c q m r) (result : Result Transmission SenderError)
+      → IfOk result (λ sent. CompletesCall (transmit_steps now bytes checked sent) (kept sent) old new)
       → OnErr result (new ≡ old) → TransmitTurn old new bytes result
   may_transmit now bytes checked kept old new (Ok transmission.Transmitted) does same =
-      call_goes _ _ (GoesOn (leaving bytes)) (then_quiet (leaving bytes)) kept old new does
+      call_goes _ _ (GoesOn (leaving bytes)) (then_quiet (leaving bytes)) (kept transmission.Transmitted) old new does
       (λ config start random past keeps. leaves_event past now bytes checked)
-  may_transmit now bytes checked kept old new (Ok (transmission.Delayed until)) does same =
-      call_goes _ _ GoesOnQuietly (then_quiet quiet) kept old new does
+  may_transmit now bytes checked kept old new (Ok (transmission.Delayed until ack)) does same =
+      call_goes _ _ GoesOnQuietly (then_quiet quiet) (kept (transmission.Delayed until ack)) old new does
       (λ config start random past keeps. delayed_event past now bytes until checked)
-  may_transmit now bytes checked kept old new (Ok other) does same = call_quietly [] kept old new does tt
+  may_transmit now bytes checked kept old new (Ok other) does same = call_quietly [] (kept other) old new does tt
   may_transmit now bytes checked kept old new (Err refusal) does same = same_quietly old new same
 
   -- a call that is one event

@@ -7,6 +7,7 @@ use Rattle.std.proofs.lemmas.Bool.Decides.{nat_tests}
 use Rattle.recovery_base.specs.declared.below.SpaceId.{SpaceId}
 use Rattle.recovery_events.specs.declared.event.Event.TheVariants as events
 use Rattle.recovery_events.specs.declared.event.Refusal.TheVariants.{NoMemory, SpaceDiscarded}
+use Rattle.recovery_losses.specs.Frames.{received_at}
 use Rattle.recovery_losses.specs.declared.frames.Ack.{Ack}
 use Rattle.recovery_losses.specs.declared.variables.Variables.{Variables}
 use Rattle.recovery_sender.specs.Acking.{AckResult, Acknowledges, acking}
@@ -34,7 +35,7 @@ use Rattle.recovery_pair.specs.declared.steps.AckOutcome.TheVariants.{Taken}
 use Rattle.recovery_pair.specs.declared.steps.PairAnswer.TheVariants.{Expired}
 use Rattle.recovery_pair.specs.Congested.{Congestions, any_congestion}
 use Rattle.recovery_pair.specs.Flights.{ends_by_timer, is_lost_in}
-use Rattle.recovery_pair.specs.Pasts.{Continues, Endings, GoesOn, GoesOnQuietly, ending, endings_by_ack, losing, no_endings, quiet, with_congestion}
+use Rattle.recovery_pair.specs.Pasts.{Continues, Endings, GoesOn, GoesOnQuietly, ending, endings_by_ack, leaving, losing, no_endings, quiet, with_congestion}
 use Rattle.recovery_pair.specs.Turns.{timeout_turn}
 use Rattle.recovery_pair.proofs.AlongLaws.{AreSo, Extends, call_so, ecn_so, joined, same_so, samples_so, steps_so}
 use Rattle.recovery_pair.proofs.GoingLaws.{IsEndingEvent, ending_event, ending_none, ending_then, quiet_ends, quiet_then, same_itself}
@@ -134,23 +135,23 @@ module _ (Q S M P : Type 0) (ends : Endings) where
       let equal : number ≡ probe = cc in grind (arith, nat_tests, is, equal)
   probe_declared (Some number) (Some probe) same n (inr never) = absurd never
 
-  detecting_ending : (look : LossPass) (attempts : List LossAttempt) (found : Option ℕ) (losses : Losses) (bytes : ℕ)
-      (sent time : Option ℕ) → losses.numbers.items ≡ declared_in attempts
+  detecting_ending : (look : LossPass) (now : ℕ) (attempts : List LossAttempt) (found : Option ℕ) (losses : Losses)
+      (bytes : ℕ) (sent time : Option ℕ) → losses.numbers.items ≡ declared_in attempts
       → ForSome losses.probe (λ number. found ≡ Some number)
       → ((n : ℕ) → is_lost_in losses n ≡ true → ends.gone look.space n ≡ true)
-      → MayCongest ends.congests look.at losses.is_persistent sent
-      → AreEnding {Q = Q} {S = S} {M = M} {P = P} ends (detecting look attempts found losses bytes sent time)
-  detecting_ending look attempts found losses bytes sent time declared probe each may =
+      → MayCongest ends.congests now losses.is_persistent sent
+      → AreEnding {Q = Q} {S = S} {M = M} {P = P} ends (detecting look now attempts found losses bytes sent time)
+  detecting_ending look now attempts found losses bytes sent time declared probe each may =
       let last : List (SenderStep Q S M P) = trying look.space (probe_attempts found losses.probe)
       ++ loss_time look.space time ∷ [] in
-      let later : List (SenderStep Q S M P) = congested look.at losses.is_persistent bytes sent ++ last in
-      ending_append (trying look.space attempts) (ended look.at losses.is_black_hole losses.numbers.items ++ later)
+      let later : List (SenderStep Q S M P) = congested now losses.is_persistent bytes sent ++ last in
+      ending_append (trying look.space attempts) (ended now losses.is_black_hole losses.numbers.items ++ later)
       (trying_ending look.space attempts (λ n is. each n (ends_within true _ _ refl
       (one_of_member n losses.numbers.items (rw declared is)))))
-      (ending_append (ended look.at losses.is_black_hole losses.numbers.items) later
-      (ended_ending look.at losses.is_black_hole losses.numbers.items)
-      (ending_append (congested look.at losses.is_persistent bytes sent) last
-      (congested_ending look.at losses.is_persistent bytes sent may)
+      (ending_append (ended now losses.is_black_hole losses.numbers.items) later
+      (ended_ending now losses.is_black_hole losses.numbers.items)
+      (ending_append (congested now losses.is_persistent bytes sent) last
+      (congested_ending now losses.is_persistent bytes sent may)
       (ending_append (trying look.space (probe_attempts found losses.probe)) (loss_time look.space time ∷ [])
       (trying_ending look.space (probe_attempts found losses.probe)
       (λ n is. each n (ends_beyond true (is_member nat_eq losses.numbers.items n) _ refl
@@ -166,6 +167,12 @@ module _ {F Q R C K S M P : Type 0} {f : _} {c : _} {q : _} {m : _} {r : _} wher
   pub quietly_then : (old between new : Sender F Q R C K S M P f c q m r) → Continues GoesOnQuietly old between
       → Continues GoesOnQuietly between new → Continues GoesOnQuietly old new
   quietly_then = joined GoesOnQuietly GoesOnQuietly GoesOnQuietly (quiet_then quiet)
+
+  -- then a datagram is counted
+  pub quietly_leaves : (size : ℕ) (old between new : Sender F Q R C K S M P f c q m r)
+      → Continues GoesOnQuietly old between → Continues (GoesOn (leaving size)) between new
+      → Continues (GoesOn (leaving size)) old new
+  quietly_leaves size = joined GoesOnQuietly (GoesOn (leaving size)) (GoesOn (leaving size)) (quiet_then (leaving size))
 
   -- no other packets than these end
   abbrev pub EndsWithin : Endings → Sender F Q R C K S M P f c q m r → Sender F Q R C K S M P f c q m r → Type 0
@@ -203,7 +210,7 @@ module _ {F Q R C K S M P : Type 0} {f : _} {c : _} {q : _} {m : _} {r : _} wher
       → Continues GoesOnQuietly old new
   unsent_quietly space now size eliciting largest queue frames old new (refused.Event refusal) takes =
       steps_quietly _ old new takes (tt, tt)
-  unsent_quietly space now size eliciting largest queue frames old new refused.Unsent never = absurd never
+  unsent_quietly space now size eliciting largest queue frames old new other never = absurd never
 
   -- ---- a probe
 
@@ -221,29 +228,29 @@ module _ {F Q R C K S M P : Type 0} {f : _} {c : _} {q : _} {m : _} {r : _} wher
 
   -- when the last lost packet was sent that indicates congestion
   abbrev pub last_lost : SpaceId → ℕ → Bool → Losses → Sender F Q R C K S M P f c q m r → Option ℕ
-  last_lost space now due_to_ack losses sender =
-      option_and_then (λ largest. last_counted (look_of (state_in sender) sender.variables space now due_to_ack largest)
+  last_lost space at due_to_ack losses sender =
+      option_and_then (λ largest. last_counted (look_of (state_in sender) sender.variables space at due_to_ack largest)
       (packets_in (state_in sender) space) losses.numbers.items) (largest_in (state_in sender) space)
 
-  pub detects_ending : (ends : Endings) (space : SpaceId) (now : ℕ) (due_to_ack : Bool) (losses : Losses)
+  pub detects_ending : (ends : Endings) (space : SpaceId) (now at : ℕ) (due_to_ack : Bool) (losses : Losses)
       (old new : Sender F Q R C K S M P f c q m r) → ((n : ℕ) → is_lost_in losses n ≡ true → ends.gone space n ≡ true)
-      → MayCongest ends.congests now losses.is_persistent (last_lost space now due_to_ack losses old)
-      → DetectsLosses space now due_to_ack old losses new → EndsWithin ends old new
-  detects_ending ends space now due_to_ack losses old new each may detects =
+      → MayCongest ends.congests now losses.is_persistent (last_lost space at due_to_ack losses old)
+      → DetectsLosses space now at due_to_ack old losses new → EndsWithin ends old new
+  detects_ending ends space now at due_to_ack losses old new each may detects =
       by (largest_in (state_in old) space) refl
     where
       by : (found : Option ℕ) → largest_in (state_in old) space ≡ found → EndsWithin ends old new
       by None none = steps_ending ends _ old new (detects.none none).1 tt
       by (Some largest) is =
           let looked = detects.looks largest is in
-          let look : LossPass = look_of (state_in old) old.variables space now due_to_ack largest in
+          let look : LossPass = look_of (state_in old) old.variables space at due_to_ack largest in
           let packets = packets_in (state_in old) space in
           steps_ending ends _ old new looked.4
-          (detecting_ending Q S M P ends look looked.0 looked.2.found losses
+          (detecting_ending Q S M P ends look now looked.0 looked.2.found losses
           (min (bytes_counted look packets losses.numbers.items) largest_u64)
           (last_counted look packets losses.numbers.items) looked.1 looked.2.declared looked.2.probe each
           (λ sent found. may sent (ap (λ (known : Option ℕ). option_and_then (λ largest. last_counted (look_of
-          (state_in old) old.variables space now due_to_ack largest) packets losses.numbers.items) known) is ∙ found)))
+          (state_in old) old.variables space at due_to_ack largest) packets losses.numbers.items) known) is ∙ found)))
 
   pub by_time_ending : (congests : Congestions) (space : SpaceId) (now : ℕ) (losses : Losses)
       (old new : Sender F Q R C K S M P f c q m r)
@@ -253,7 +260,7 @@ module _ {F Q R C K S M P : Type 0} {f : _} {c : _} {q : _} {m : _} {r : _} wher
   by_time_ending congests space now losses old new may by =
       let ends : Endings = with_congestion congests (losing (ends_by_timer (Ok (Expired (Lost space losses))))) in
       ends_then ends old by.behind new
-      (detects_ending ends space now false losses old by.behind
+      (detects_ending ends space now now false losses old by.behind
       (λ n lost. both_true (same_space space space) (is_lost_in losses n) (same_itself space) lost) may by.detects)
       (within_any ends by.behind new (call_quietly [] _ by.behind new by.does tt))
 
@@ -287,17 +294,18 @@ module _ {F Q R C K S M P : Type 0} {f : _} {c : _} {q : _} {m : _} {r : _} wher
         is.samples)))
 
     pub acknowledges_ending : ack.ecn ≡ None
-        → MayCongest congests now acked.losses.is_persistent (last_lost space now true acked.losses is.sampled)
+        → MayCongest congests now acked.losses.is_persistent
+        (last_lost space (received_at ack now) true acked.losses is.sampled)
         → EndsWithin (acked_with space acked congests) old new
     acknowledges_ending unmarked may =
         let ends = acked_with space acked congests in
         ends_then ends old is.sampled new sampled_ending
         (ends_then ends is.sampled is.looked new
-        (detects_ending ends space now true acked.losses is.sampled is.looked
+        (detects_ending ends space now (received_at ack now) true acked.losses is.sampled is.looked
         (λ n lost. ends_beyond (same_space space space) (is_member nat_eq acked.numbers.items n) _ (same_itself space)
         lost) may is.detects)
         (within_any ends is.looked new (quietly_then is.looked is.heard new
-        (ecn_so (ending_along no_endings) is.looked is.heard space now _ _ _ _ _ unmarked is.compares)
+        (ecn_so (ending_along no_endings) is.looked is.heard space now _ _ _ _ _ _ unmarked is.compares)
         (call_quietly [] _ is.heard new is.does tt))))
 
   pub ack_ending : (space : SpaceId) (now : ℕ) (ranges : List (ℕ × ℕ)) (ack : Ack)

@@ -19,7 +19,7 @@ use Rattle.recovery_paths.specs.PathLog.{PerPath, reverted}
 use Rattle.recovery_paths.specs.declared.path_pair.PathName.TheVariants.{Current}
 use Rattle.recovery_spaces.specs.Discarded.{is_discarded}
 use Rattle.recovery_spaces.specs.Packets.{Packet, packet_at}
-use Rattle.recovery_losses.specs.Frames.{are_ranges, largest_of}
+use Rattle.recovery_losses.specs.Frames.{are_ranges, largest_of, received_at}
 use Rattle.recovery_losses.specs.Losses.{IsOneOf}
 use Rattle.recovery_losses.specs.declared.frames.Ack.{Ack}
 use Rattle.recovery_history.specs.declared.config.RecoveryConfig.{RecoveryConfig}
@@ -240,14 +240,16 @@ module _ {F Q R C K S M P : Type 0} {f : _} {c : _} {q : _} {m : _} {r : _} (sen
 
 pub taken_sampled : {F Q R C K S M P : Type 0} {f : _} {c : _} {q : _} {m : _} {r : _} (space : SpaceId) (now : ℕ)
     (ranges : List (ℕ × ℕ)) (ack : Ack) (old new : Sender F Q R C K S M P f c q m r) (acked : Acknowledged)
-    → AckResult space now ranges ack old new (Ok acked) → SampledBy space now ranges old (Taken acked)
+    → AckResult space now ranges ack old new (Ok acked) → SampledBy space (received_at ack now) ranges old (Taken acked)
 taken_sampled space now ranges ack old new acked is config start random past came none = by acked.numbers.items refl
   where
     by : (numbers : List ℕ) → acked.numbers.items ≡ numbers
-        → acked.rtt ≡ sample_of (sent_at space past) (elicits_by space past) now acked.numbers.items
+        → acked.rtt ≡ sample_of (sent_at space past) (elicits_by space past) (received_at ack now) acked.numbers.items
         (largest_of ranges)
     by [] empty = (is.none empty).rtt
-        ∙ sym (rw empty (none_newly (sent_at space past) (elicits_by space past) now (largest_of ranges)))
+        ∙ sym (rw empty (none_newly (sent_at space past) (elicits_by space past) (received_at ack now)
+        (largest_of ranges)))
     by (number ∷ numbers) some = (is.some (λ empty. absurd cc)).rtt
-        ∙ rtt_is old config start random past came space is.whole.0 none now ranges is.whole.1 acked.numbers.items
+        ∙ rtt_is old config start random past came space is.whole.0 none (received_at ack now) ranges is.whole.1
+        acked.numbers.items
         is.elicits is.newly

@@ -8,6 +8,7 @@ use Rattle.recovery_events.specs.declared.event.Event.{Event}
 use Rattle.recovery_events.specs.declared.event.Event.TheVariants as events
 use Rattle.recovery_events.specs.declared.event.Refusal.{Refusal}
 use Rattle.recovery_events.specs.declared.event.Refusal.TheVariants.{NoMemory, SpaceDiscarded}
+use Rattle.recovery_losses.specs.Frames.{received_at}
 use Rattle.recovery_losses.specs.declared.frames.Ack.{Ack}
 use Rattle.recovery_losses.specs.declared.variables.Variables.{Variables}
 use Rattle.recovery_losses.specs.Variables.{timed_out}
@@ -32,6 +33,7 @@ use Rattle.recovery_sender.specs.declared.sender.SenderError.TheVariants as refu
 use Rattle.recovery_sender.specs.declared.sender.acks.Acknowledged.{Acknowledged}
 use Rattle.recovery_sender.specs.declared.sender.probes.Timeout.{Timeout}
 use Rattle.recovery_sender.specs.declared.sender.probes.Timeout.TheVariants.{Nothing, Lost, Probe}
+use Rattle.recovery_sender.proofs.EventLaws.{failed_takes}
 use Rattle.recovery_pair.specs.declared.steps.AckOutcome.TheVariants.{Taken}
 use Rattle.recovery_pair.specs.declared.steps.End.{End}
 use Rattle.recovery_pair.specs.declared.steps.End.TheVariants.{Client, Server}
@@ -102,8 +104,9 @@ module _ {F Q R C K S M P : Type 0} {f : _} {c : _} {q : _} {m : _} {r : _} (old
     event_timer event fails stays (Ok answer) is = call_timer (λ known. known) old _ (after_event event answer
         old.variables) (subst (λ (changes : Bool). IsAnsweredEvent event old new answer changes) stays is)
         (sent_known (sent_in (elicits_in event) answer) (sent_at (to_send event) answer) old.variables)
-    event_timer event fails stays (Err (refused.Event refusal)) takes = failed_timer event fails refusal takes
-    event_timer event fails stays (Err refused.Unsent) never = absurd never
+    event_timer event fails stays (Err (refused.Event refusal)) is =
+        failed_timer event fails refusal (failed_takes event old new stays refusal is)
+    event_timer event fails stays (Err other) never = absurd never
 
     -- a call that completes, or fails without a change
     pub tries_timer : {A : Type 0} (Steps : A → List (SenderStep Q S M P)) (kept : A → Variables)
@@ -144,7 +147,7 @@ module _ {F Q R C K S M P : Type 0} {f : _} {c : _} {q : _} {m : _} {r : _} (old
             let acks = is.some (λ none. absurd cc) in
             call_timer (known_by_ack space (Taken acked)) acks.heard [] _ acks.does
             (rw some (heard_known space now (is_first_sample (state_in old)
-            (rtt_of (state_in old) space now ranges is.elicits)) old.variables))
+            (rtt_of (state_in old) space (received_at ack now) ranges is.elicits)) old.variables))
 
 module _ {F Q R C K S M P : Type 0} {f : _} {c : _} {q : _} {m : _} {r : _} where
   -- one endpoint makes a call, the other none

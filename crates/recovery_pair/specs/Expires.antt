@@ -1,14 +1,13 @@
 -- The loss detection timer acts at its time (RFC 9002, 6.2.1, 6.2.4 and A.9).
-use Rattle.std.specs.Prelude.{◌≡◌, ℕ, ◌≤◌, ◌⊎◌, true, IsSomeAnd, Result, Ok, Err}
+use Rattle.std.specs.Prelude.{◌≡◌, ◌≢◌, ℕ, ◌≤◌, ◌⊎◌, true, false, None, IsSomeAnd, Result, Ok, Err}
 use Rattle.recovery_base.specs.declared.below.SpaceId.{SpaceId}
 use Rattle.recovery_base.specs.declared.timer.Timer.TheVariants.{LossDetection}
 use Rattle.recovery_base.specs.Timers.{moment}
 use Rattle.recovery_events.specs.declared.event.Refusal.TheVariants.{NoMemory}
-use Rattle.recovery_losses.specs.Variables.{is_probe_due}
+use Rattle.recovery_losses.specs.Variables.{is_address_validated, is_probe_due, waiting_since}
 use Rattle.recovery_sender.specs.Promises.Liveness.{IsAckOwed, loss_time_in}
 use Rattle.recovery_sender.specs.Senders.{state_in}
 use Rattle.recovery_sender.specs.Timeouts.{IsEarly, TimeoutResult}
-use Rattle.recovery_sender.specs.Timer.{may_deadlock}
 use Rattle.recovery_sender.specs.declared.sender.Sender.{Sender}
 use Rattle.recovery_sender.specs.declared.sender.SenderError.{SenderError}
 use Rattle.recovery_sender.specs.declared.sender.SenderError.TheVariants.{Event}
@@ -39,15 +38,16 @@ module _ {F Q R C K S M P : Type 0} {f : _} {c : _} {q : _} {m : _} {r : _} wher
   IsLossDue now space sender = IsSomeAnd (loss_time_in (state_in sender) space) (λ time. time ≤ now)
 
   -- Nothing is due before the time. At it a space with a packet lost by its age gets a loss detection pass, which alone
-  -- may fail. Or probes are due: two in a space with an ack-eliciting packet in flight, or one against a deadlock.
+  -- may fail. Or probes are due: two in a space with an ack-eliciting packet in flight, or with a packet that waits for
+  -- room in the window; or one at a client that does not know its address validated.
   abbrev pub ActsInTime : ℕ → Result PairAnswer SenderError → Sender F Q R C K S M P f c q m r
       → Sender F Q R C K S M P f c q m r → Type 0
   ActsInTime now (Ok (Expired Nothing)) old new = IsEarly now (moment LossDetection (state_in old).timers)
   ActsInTime now (Ok (Expired (Lost space losses))) old new = IsDue now old × IsLossDue now space old
   ActsInTime now (Ok (Expired (Probe space count))) old new =
       IsDue now old × (is_probe_due new.variables space ≡ true)
-      × ((count ≡ 2) × IsAckOwed (state_in old) old.variables space
-      ⊎ (count ≡ 1) × (may_deadlock (state_in old) old.variables ≡ true))
+      × ((count ≡ 2) × (IsAckOwed (state_in old) old.variables space ⊎ (waiting_since old.variables space ≢ None))
+      ⊎ (count ≡ 1) × (is_address_validated old.variables ≡ false))
   ActsInTime now (Ok answer) old new = ⊥
   ActsInTime now (Err refusal) old new =
       IsDue now old × (refusal ≡ Event NoMemory) × (space : SpaceId) × IsLossDue now space old

@@ -11,6 +11,8 @@ use Rattle.recovery_sender.specs.declared.sender.SenderError.{SenderError}
 use Rattle.recovery_sender.specs.declared.sender.probes.Timeout.{Timeout}
 use Rattle.recovery_sender.specs.declared.sender.packets.Transmission.{Transmission}
 use Rattle.recovery_sender.specs.declared.sender.packets.Transmission.TheVariants.{Transmitted}
+use Rattle.recovery_pair.specs.declared.calls.Permission.{Permission}
+use Rattle.recovery_pair.specs.declared.calls.Permission.TheVariants.{AckAlone, Whole}
 use Rattle.recovery_pair.specs.declared.endpoint.Outgoing.{Outgoing}
 use Rattle.recovery_pair.specs.declared.endpoint.Outgoing.TheVariants as outgoing
 use Rattle.recovery_pair.specs.declared.steps.AckOutcome.{AckOutcome}
@@ -76,12 +78,24 @@ FitsIfPermitted sender space size eliciting (Ok Transmitted) =
     FitsChecked sender size (window_checked sender space eliciting)
 FitsIfPermitted sender space size eliciting result = Unit {0}
 
+abbrev pub PermissionFits : {F Q R C K S M P : Type 0} {f : _} {c : _} {q : _} {m : _} {r : _}
+    → Sender F Q R C K S M P f c q m r → SpaceId → ℕ → Bool → Result Permission SenderError → Type 0
+PermissionFits sender space size eliciting (Ok Whole) =
+    FitsChecked sender size (window_checked sender space eliciting)
+PermissionFits sender space size eliciting result = Unit {0}
+
 module _ {F Q R C K S M P : Type 0} {f : _} {c : _} {q : _} {m : _} {r : _} (old new : Sender F Q R C K S M P f c q m r)
   where
     -- a datagram is permitted, and counted
     abbrev pub TransmitTurn : ℕ → Result Transmission SenderError → Type 0
     TransmitTurn size (Ok Transmitted) = Continues (GoesOn (leaving size)) old new
     TransmitTurn size other = Continues GoesOnQuietly old new
+
+    -- or a part of it is
+    abbrev pub PermissionTurn : ℕ → Result Permission SenderError → Type 0
+    PermissionTurn size (Ok Whole) = Continues (GoesOn (leaving size)) old new
+    PermissionTurn size (Ok AckAlone) = Continues (GoesOn (leaving size)) old new
+    PermissionTurn size other = Continues GoesOnQuietly old new
 
     -- A packet is sent, with the items that the answer reports, and with an ACK of numbers that were received. With the
     -- bytes in flight it fits into the window that is checked.

@@ -10,12 +10,14 @@ ghost use Rattle.recovery_pair.specs.Frames.{FailsFrame, IsFrameFor};
 ghost use Rattle.recovery_losses.specs.Frames.{largest_of};
 ghost use Rattle.recovery_pair.specs.LeastWindows.{IsLeastIf, KeepsLeastWindow, persists_by_ack, persists_by_timeout};
 ghost use Rattle.recovery_pair.specs.Newly.{AcksFlightBy};
-ghost use Rattle.recovery_pair.specs.Pasts.{Continues, GoesOn, GoesOnQuietly, HasPast, HearsNumber, NoAccusation, SampledBy, SendsNumber, AcksWithin, arm_told, arriving, discarding, ending, endings_by_ack, heard_of, no_endings, validating, with_congestion};
+ghost use Rattle.recovery_pair.specs.Pasts.{Continues, GoesOn, GoesOnQuietly, HasPast, HearsNumber, NoAccusation, SampledBy, SendsNumber, AcksWithin, arm_told, arriving, discarding, ending, endings_by_ack, heard_of, leaving, no_endings, validating, with_congestion};
 ghost use Rattle.recovery_pair.specs.Promises.Framed.{HasFrame};
-ghost use Rattle.recovery_pair.specs.Permits.{FitsChecked, said_by, window_checked};
+ghost use Rattle.recovery_pair.specs.Permits.{FitsChecked, IsPermission, SaysOf, WaitsFor, WaitsIfHeld, requires_ack, window_checked};
 ghost use Rattle.recovery_pair.specs.Promises.Repeats.{is_probe};
 ghost use Rattle.recovery_pair.specs.Timed.{KeepsTimer, KeepsTimerAs};
-ghost use Rattle.recovery_pair.specs.Turns.{FitsIfPermitted, TransmitTurn, TriesTurn, timeout_turn};
+ghost use Rattle.recovery_pair.specs.Turns.{FitsIfPermitted, PermissionFits, PermissionTurn, TransmitTurn, TriesTurn, timeout_turn};
+ghost use Rattle.recovery_sender.specs.Calls.{PermitsAckAlone, PermitsAlone};
+ghost use Rattle.recovery_sender.specs.Senders.{state_in};
 
 use crate::steps::{AckOutcome, WirePacket};
 use rand_core::Rng;
@@ -120,13 +122,86 @@ where
     F: ControllerFactory,
     R: Rng + Drop,
     ensures goes { TransmitTurn sender.old sender.new size result }
-    ensures said { result ≡ said_by sender.old space now size eliciting }
+    ensures said { SaysOf sender.old space now size eliciting result }
     ensures fits { FitsIfPermitted sender.old space size eliciting result }
+    ensures alone { IfOk result (λ sent. PermitsAckAlone (state_in sender.new) space size sent) }
+    ensures waits { IfOk result (λ sent. WaitsFor space sent sender.new) }
     ensures spaces { KeepsSpaces sender.old sender.new }
     ensures timer { KeepsTimer sender.old sender.new }
     ensures items { CarriesNone sender.old sender.new }
 {
     sender.transmit(now, size, space, eliciting)
+}
+
+/// What a sender permits of a datagram.
+pub(crate) enum Permission {
+    /// All of it.
+    Whole,
+    /// An ACK alone: the window or the pacer holds the rest back (RFC 9002, 7 and 7.7).
+    AckAlone,
+    /// Nothing now.
+    Held(Transmission),
+}
+
+/// Asks whether a datagram may be sent. If the window or the pacer holds it back, and an ACK is required, asks for the
+/// ACK alone (RFC 9000, 13.2.1).
+pub(crate) fn permit<F, R>(
+    sender: &mut Sender<F, ItemQueue, R>,
+    space: SpaceId,
+    now: Instant,
+    size: u16,
+    eliciting: bool,
+) -> Result<Permission, SenderError>
+where
+    F: ControllerFactory,
+    R: Rng + Drop,
+    ensures goes { PermissionTurn sender.old sender.new size result }
+    ensures said { IsPermission (SaysOf sender.old space now size eliciting) result }
+    ensures fits { PermissionFits sender.old space size eliciting result }
+    ensures waits { WaitsIfHeld space result sender.new }
+    ensures spaces { KeepsSpaces sender.old sender.new }
+    ensures timer { KeepsTimer sender.old sender.new }
+    ensures items { CarriesNone sender.old sender.new }
+{
+    let said = match transmit(sender, space, now, size, eliciting) {
+        Ok(said) => said,
+        Err(refused) => return Err(refused),
+    };
+    if requires_ack(&said) {
+        count_ack(sender, space, now, size);
+        return Ok(Permission::AckAlone);
+    }
+    match said {
+        Transmission::Transmitted => Ok(Permission::Whole),
+        held => Ok(Permission::Held(held)),
+    }
+}
+
+/// Returns whether the window or the pacer holds a datagram back while an ACK is required (RFC 9000, 13.2.1).
+fn requires_ack(said: &Transmission) -> bool
+    ensures { result ≡ requires_ack said.now }
+{
+    match said {
+        Transmission::Full { ack } | Transmission::Delayed { ack, .. } => *ack,
+        _ => false,
+    }
+}
+
+/// Counts the datagram of an ACK alone, which the sender permits.
+fn count_ack<F, R>(sender: &mut Sender<F, ItemQueue, R>, space: SpaceId, now: Instant, size: u16)
+where
+    F: ControllerFactory,
+    R: Rng + Drop,
+    requires permits { PermitsAlone (state_in sender.old) space size }
+    ensures goes { Continues (GoesOn (leaving size)) sender.old sender.new }
+    ensures spaces { KeepsSpaces sender.old sender.new }
+    ensures timer { KeepsTimer sender.old sender.new }
+    ensures items { CarriesNone sender.old sender.new }
+{
+    match transmit(sender, space, now, size, false) {
+        Ok(Transmission::Transmitted) => {}
+        _ => unreachable!(),
+    }
 }
 
 /// Returns whether a packet is a probe: it counts in flight, and no window was checked for it.
@@ -308,6 +383,7 @@ where
         delay: packet.delay,
         ecn: None,
         app_limited: false,
+        received: None,
     };
     match sender.on_ack(packet.space, now, &packet.ranges, ack) {
         Ok(acknowledged) => AckOutcome::Taken(acknowledged),

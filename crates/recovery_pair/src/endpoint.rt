@@ -8,14 +8,15 @@ ghost use Rattle.recovery_pair.specs.Filled.{FillsOutcome, IsFilled, IsNextAt, n
 ghost use Rattle.recovery_pair.specs.LeastWindows.{IsLeastIf, KeepsLeastWindow, persists_by_fate, persists_by_timer};
 ghost use Rattle.recovery_pair.specs.Pasts.{Continues, GoesOn, GoesOnQuietly};
 ghost use Rattle.recovery_pair.specs.Turns.{FindsByTimer, HearTurn, PackTurn, SendTurn, local_turn};
-ghost use Rattle.recovery_pair.specs.Permits.{IsIdle, PermitsOutcome};
+ghost use Rattle.recovery_pair.specs.Permits.{IsIdle, PermitsOutcome, WaitsIfFull};
 ghost use Rattle.recovery_pair.specs.Timed.{KeepsTimer, KeepsTimerAs};
 ghost use Rattle.recovery_pair.specs.Promises.Locals.{IsDone, IsDoneOrNothing, IsLocalAnswer};
 ghost use Rattle.recovery_pair.specs.Waits.{GainsOne, HandWaits, IsPlaceInQueue, LocalWaits, LosesNone, LosesOne, PackWaits, SendWaits, waiting_in};
 
 use crate::calls::{
-    AckToSend, NO_MEMORY, confirm, contents, copied, datagram, discard, end_acks, end_delay,
-    expire, frame, get_keys, hear, hear_ack, is_probe, track, transmit, validate, window_checked,
+    AckToSend, NO_MEMORY, Permission, confirm, contents, copied, datagram, discard, end_acks,
+    end_delay, expire, frame, get_keys, hear, hear_ack, is_probe, permit, track, validate,
+    window_checked,
 };
 use crate::steps::{End, Fate, LocalStep, PairAnswer, WirePacket};
 use rand_core::Rng;
@@ -149,6 +150,7 @@ where
         ensures items { MovesSent space result (self.old.sender, self.old.waiting.items)
             (self.new.sender, self.new.waiting.items) }
         ensures filled { FillsOutcome space result (self.old.sender, self.old.waiting.items) }
+        ensures held { WaitsIfFull space result self.new.sender }
     {
         let eliciting = self.has_items(space);
         let ack = match frame(alloc, &self.sender, space, now) {
@@ -163,12 +165,14 @@ where
             Err(_) => return Err(NO_MEMORY),
         }
         let window = window_checked(&self.sender, space, eliciting);
-        match transmit(&mut self.sender, space, now, size, eliciting) {
-            Ok(Transmission::Transmitted) => {}
-            Ok(held) => return Ok(Outgoing::Held(held)),
-            Err(refused) => return Err(refused),
+        match permit(&mut self.sender, space, now, size, eliciting) {
+            Ok(Permission::Whole) => {
+                Ok(self.pack(alloc, from, space, now, size, eliciting, window, ack))
+            }
+            Ok(Permission::AckAlone) => Ok(self.pack_ack(alloc, from, space, now, size, None, ack)),
+            Ok(Permission::Held(held)) => Ok(Outgoing::Held(held)),
+            Err(refused) => Err(refused),
         }
-        Ok(self.pack(alloc, from, space, now, size, eliciting, window, ack))
     }
 
     /// Packs and records the packet of a datagram that is permitted.
@@ -194,6 +198,9 @@ where
         ensures filled { FillsOutcome space (Ok result)
             (self.old.sender, self.old.waiting.items) }
     {
+        if !eliciting {
+            return self.pack_ack(alloc, from, space, now, size, window, ack);
+        }
         let probe = is_probe(eliciting, &window);
         let TakenItems { queue, items, told } = match self.take_items(alloc, space, probe) {
             Ok(taken) => taken,
@@ -227,6 +234,48 @@ where
                 self.keep(space, ItemQueue::from_items(items));
                 Outgoing::Failed(refused)
             }
+        }
+    }
+
+    /// Packs and records a packet that holds an ACK alone. It does not count in flight.
+    fn pack_ack(
+        &mut self,
+        alloc: Global,
+        from: End,
+        space: SpaceId,
+        now: Instant,
+        size: u16,
+        window: Option<u64>,
+        ack: AckToSend,
+    ) -> Outgoing
+        ensures goes { PackTurn self.old.sender self.new.sender from space now size false window
+            ack.ranges.items ack.delay result }
+        ensures waits { PackWaits self.old.waiting.items self.new.waiting.items space result }
+        ensures timer { KeepsTimer self.old.sender self.new.sender }
+        ensures items { MovesSent space (Ok result) (self.old.sender, self.old.waiting.items)
+            (self.new.sender, self.new.waiting.items) }
+        ensures filled { FillsOutcome space (Ok result)
+            (self.old.sender, self.old.waiting.items) }
+    {
+        let AckToSend { ranges, delay, .. } = ack;
+        let largest = largest_of(&ranges);
+        let none = ItemQueue::from_items(Vec::new(alloc));
+        match track(&mut self.sender, space, now, size, false, largest, none) {
+            Ok(number) => {
+                self.end_acks(space);
+                let packet = WirePacket {
+                    from,
+                    space,
+                    number,
+                    size,
+                    eliciting: false,
+                    items: Vec::new(alloc),
+                    ranges,
+                    delay,
+                };
+                Outgoing::Sent(packet, Vec::new(alloc), window)
+            }
+            Err(refused) => Outgoing::Failed(refused),
         }
     }
 

@@ -9,7 +9,7 @@ ghost use Rattle.recovery_pair.specs.Filled.{AtEnd, FillsAnswer, FillsOutcome, F
 ghost use Rattle.recovery_pair.specs.LeastWindows.{AreLeastAfter, IsLeastIf, persists_by_fate, persists_by_timer};
 ghost use Rattle.recovery_pair.specs.NoDeadlock.{HoldsWithCause, IfTied, NeverStuck};
 ghost use Rattle.recovery_pair.specs.Pasts.{Continues, GoesOn};
-ghost use Rattle.recovery_pair.specs.Permits.{HoldsAt, PermitsAnswer, PermitsOutcome, SendsAsPermitted};
+ghost use Rattle.recovery_pair.specs.Permits.{HoldsAt, PermitsAnswer, PermitsOutcome, SendsAsPermitted, WaitsIfFull};
 ghost use Rattle.recovery_pair.specs.Promises.Locals.{IsLocalAnswer};
 ghost use Rattle.recovery_pair.specs.Runs.{StepKeeps};
 ghost use Rattle.recovery_pair.specs.Tied.{IsTied};
@@ -81,6 +81,7 @@ where
     ensures filled { AtEnd end (FillsOutcome space result)
         (client.old.sender, client.old.waiting.items)
         (server.old.sender, server.old.waiting.items) }
+    ensures held { HoldsAt end (WaitsIfFull space result) client.new.sender server.new.sender }
 {
     match end {
         End::Client => client.send(alloc, end, space, now, size),
@@ -209,9 +210,9 @@ where
         ensures timer_set { KeepsTimers (step, result) self.old.client.sender
             self.old.server.sender self.new.client.sender self.new.server.sender }
 
-        // No endpoint is stuck. If it may probe, its timer is set while bytes are in flight, and the window holds a
-        // datagram back only then (RFC 9002, 6.2 and 7). If callers follow the handshake, the client's timer is set
-        // until the server validates the client's address (RFC 9000, 8.1).
+        // No endpoint is stuck. Its timer is set while bytes are in flight that it probes for, and if the window holds
+        // back a packet of the handshake (RFC 9002, 6.2 and 7). If callers follow the handshake, the client's timer is
+        // set until the server validates the client's address (RFC 9000, 8.1).
         ensures unstuck { NeverStuck self.old.client.sender self.old.server.sender
             self.old.wire.items self.old.client.waiting.items self.old.server.waiting.items step
             result self.new.client.sender self.new.server.sender }

@@ -13,7 +13,7 @@ use Rattle.recovery_sender.specs.declared.sender.packets.Transmission.TheVariant
 use Rattle.recovery_sender.specs.declared.sender.probes.Timeout.{Timeout}
 use Rattle.recovery_sender.specs.declared.sender.probes.Timeout.TheVariants as timeout
 use Rattle.recovery_sender.specs.declared.sender.SenderError.{SenderError}
-use Rattle.recovery_sender.specs.declared.sender.SenderError.TheVariants.{Event, Unsent}
+use Rattle.recovery_sender.specs.declared.sender.SenderError.TheVariants.{DataSpace, Event, Unsent}
 use Rattle.recovery_pair.specs.declared.steps.AckOutcome.{AckOutcome}
 use Rattle.recovery_pair.specs.declared.steps.AckOutcome.TheVariants.{NoFrame, Taken, Refused}
 use Rattle.recovery_pair.specs.declared.steps.End.{End}
@@ -34,6 +34,7 @@ end_text Server = codes "server"
 abbrev pub error_text : SenderError → List ℕ
 error_text (Event refusal) = codes "refused " ++ decimal (refusal_number refusal) ++ codes " " ++ refusal_name refusal
 error_text Unsent = codes "refused 128 Unsent"
+error_text DataSpace = codes "refused 129 DataSpace"
 
 -- the bytes that are reported lost (RFC 9002, 7.3.2 and 7.6)
 abbrev pub congestion_text : Bool → Option ℕ → List ℕ
@@ -74,8 +75,8 @@ fate_text (Dropped error) = codes " dropped " ++ error_text error
 abbrev pub held_text : Transmission → List ℕ
 held_text Transmitted = codes "transmitted"
 held_text Blocked = codes "blocked"
-held_text Full = codes "full"
-held_text (Delayed until) = codes "delayed " ++ decimal until
+held_text (Full ack) = codes "full"
+held_text (Delayed until ack) = codes "delayed " ++ decimal until
 
 abbrev pub expired_text : Timeout → List ℕ
 expired_text timeout.Nothing = codes "nothing"

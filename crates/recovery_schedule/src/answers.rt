@@ -24,6 +24,7 @@ fn push_error(text: &mut String, error: SenderError) -> Result<(), AllocError>
             text.push_str(refusal.name())
         }
         SenderError::Unsent => text.push_str("refused 128 Unsent"),
+        SenderError::DataSpace => text.push_str("refused 129 DataSpace"),
     }
 }
 
@@ -125,8 +126,8 @@ fn push_held(text: &mut String, held: Transmission) -> Result<(), AllocError>
     match held {
         Transmission::Transmitted => text.push_str("transmitted"),
         Transmission::Blocked => text.push_str("blocked"),
-        Transmission::Full => text.push_str("full"),
-        Transmission::Delayed(until) => push_number(text, "delayed ", until.as_nanos()),
+        Transmission::Full { .. } => text.push_str("full"),
+        Transmission::Delayed { until, .. } => push_number(text, "delayed ", until.as_nanos()),
     }
 }
 

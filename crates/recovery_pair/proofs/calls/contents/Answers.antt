@@ -39,7 +39,7 @@ returns-in-Ok-Queue-clause-items g c = rw c.if-probe.false (pending_carries c.ar
 
 pub returns-in-Err-clause-items : goal.returns-in-Err-clause-items
 returns-in-Err-clause-items g c = failed_carries (TakePending c.args.space) _ _
-    (λ refusal. tt) c.in-Err.refused c.in-Err.ensures
+    (λ refusal. tt) refl c.in-Err.refused c.in-Err.ensures
 
 pub returns-then-probe-clause-items : goal.returns-then-probe-clause-items
 returns-then-probe-clause-items g c = rw c.if-probe.true (probe_matches c.args.space false tt c.probe.result

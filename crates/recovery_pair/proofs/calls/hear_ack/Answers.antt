@@ -50,10 +50,10 @@ returns-in-Err-clause-framed g c = has_largest c.args.packet.now.ranges.items
 pub returns-in-Err-clause-honest : goal.returns-in-Err-clause-honest
 returns-in-Err-clause-honest g c =
     refused_spared c.args.packet.now.space c.args.now c.args.packet.now.ranges.items
-    (record { delay = c.args.packet.now.delay; ecn = None; app_limited = false }) c.args.sender.now
+    (record { delay = c.args.packet.now.delay; ecn = None; app_limited = false; received = None }) c.args.sender.now
     c.on_ack.new.self c.in-Err.refused (some_items c.args.packet.now.ranges c.if-is_empty.ensures)
     (subst (λ (ranges : List (ℕ × ℕ)). AckResult c.args.packet.now.space c.args.now ranges
-    (record { delay = c.args.packet.now.delay; ecn = None; app_limited = false }) c.args.sender.now
+    (record { delay = c.args.packet.now.delay; ecn = None; app_limited = false; received = None }) c.args.sender.now
     c.on_ack.new.self (Err c.in-Err.refused)) c.deref.ensures.value c.in-Err.ensures)
 
 pub returns-in-Ok-clause-timer : goal.returns-in-Ok-clause-timer

@@ -39,4 +39,4 @@ returns-in-Ok-Sent-clause-items g c = send_carries c.args.space c.args.now c.cou
 
 pub returns-in-Err-clause-items : goal.returns-in-Err-clause-items
 returns-in-Err-clause-items g c = failed_carries (Send c.args.space c.args.now _ c.args.eliciting c.args.largest
-    c.args.queue tt) _ _ (λ refusal. tt) c.in-Err.refused c.in-Err.ensures
+    c.args.queue tt) _ _ (λ refusal. tt) refl c.in-Err.refused c.in-Err.ensures

@@ -134,7 +134,7 @@ returns-in-Err-send_from-clause-timer_set g c = timers_still c.args.end _ _ _ _ 
 pub returns-in-Ok-Held-clause-held : goal.returns-in-Ok-Held-clause-held
 returns-in-Ok-Held-clause-held g c = held_at _ _ _ _ _ c.args.end c.args.space c.args.now c.args.size c.in-Ok-Held.held
     _ _ (rw c.in-Ok-Held.field-0-is at c.in-Ok-Held.ensures.goes)
-    (returns-in-Ok-Held-clause-permits g c)
+    (returns-in-Ok-Held-clause-permits g c) (rw c.in-Ok-Held.field-0-is at c.in-Ok-Held.ensures.held)
     (timers_still c.args.end _ _ _ _ c.in-Ok-Held.ensures.timer)
 
 pub returns-in-Ok-Sent-clause-filled : goal.returns-in-Ok-Sent-clause-filled
