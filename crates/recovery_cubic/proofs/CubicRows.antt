@@ -2,7 +2,11 @@
 -- rests on them.
 use Rattle.std.proofs.Common.{◌≡◌, true, false, [], ◌∷◌, None, Some, refl, lit<, lit≤, arith}
 use Rattle.recovery_congestion.specs.Calls.{ControllerCall, acks, congests, ends_acks, sends, takes_mtu}
+use Rattle.recovery_congestion.specs.Controllers.{ControllerSemantics}
+use Rattle.recovery_congestion.specs.Rounds.{ReducesOncePerRound}
 use Rattle.recovery_congestion.specs.Rtt.{Rtt}
+use Rattle.recovery_cubic.specs.declared.cubic.Cubic.{Cubic}
+use Rattle.recovery_cubic.specs.Cubic.{cubic_after, cubic_made, cubic_recovering, cubic_words}
 use Rattle.recovery_cubic.specs.Curve.{micros, IsGreatestK}
 use Rattle.recovery_cubic.specs.Growth.{ContinuesEpochThrough, floor_by}
 use Rattle.recovery_cubic.specs.History.{window_by}
@@ -97,3 +101,29 @@ counts_from = refl
 
 smaller_is_no_floor : floor_by 120_000 0 1_200 (takes_mtu 1_500 ∷ []) (loss ∷ []) ≡ 84_000
 smaller_is_no_floor = refl
+
+-- Persistent congestion does not end the recovery period, as RFC 9002, B.8 would have it. If it did, a packet sent
+-- before could reduce the window again: from 40,000 to 2,400 at 2,330 ms, up to 7,400 by old packets, then down to
+-- 5,180. That is twice in a round trip (`cubic_falls_once`)
+abbrev ends_period : ControllerCall → Cubic → Cubic
+ends_period (congests now from true lost) cubic =
+    record (cubic_recovering now true cubic) { recovery_start_time = 0 }
+ends_period call cubic = cubic_after call cubic
+
+abbrev ending_words : ControllerSemantics Cubic
+ending_words = record cubic_words { after = ends_period }
+
+abbrev persistent : ControllerCall
+persistent = congests 2_330_000_000 18_446_744_073_709_551_615 true 3_000
+
+abbrev acked_before : ControllerCall
+acked_before = acks 2_335_000_000 2_221_000_000 5_000 false rtt
+
+abbrev lost_before : ControllerCall
+lost_before = congests 2_340_000_000 2_226_000_000 false 1_000
+
+ending_it_reduces_twice :
+    ¬ ReducesOncePerRound ending_words (cubic_made 40_000 1 1_200) lost_before (acked_before ∷ persistent ∷ [])
+ending_it_reduces_twice once =
+    let before = (once (lit< tt)).0 (lit< tt) in
+    omega (arith, before)

@@ -1,5 +1,5 @@
 //! CUBIC as a controller (RFC 9438), and its factory.
-ghost use Rattle.std.specs.Prelude.{◌≡◌, ◌<◌, ◌≤◌, true, nat_le, Ok, refl, ◌^◌};
+ghost use Rattle.std.specs.Prelude.{◌≡◌, ◌*◌, ◌<◌, ◌≤◌, true, nat_le, Ok, refl, ◌^◌};
 ghost use Rattle.recovery_base.specs.Units.{u16_limit};
 ghost use Rattle.std.proofs.Math.Nat.{le_refl};
 ghost use Rattle.recovery_cubic.specs.ConfigView.{default_window};
@@ -328,11 +328,16 @@ impl Controller for Cubic {
         };
     }
 
-    /// Never reduces the window, which becomes two MTUs or more. The curve still has the datagram size with which it
-    /// began.
+    /// Leaves a window of two datagrams of the new size or more unchanged (RFC 8899, 3). A smaller one becomes two
+    /// datagrams (RFC 9002, 7.2): below one, a datagram of that size would never fit. The curve still has the datagram
+    /// size with which it began.
     fn on_mtu_update(&mut self, new_mtu: u16)
         ensures value { self.new ≡ cubic_with_mtu new_mtu self.old }
         ensures kept { self.old.window ≤ self.new.window }
+        ensures unchanged { 2 * datagram_of new_mtu ≤ self.old.window
+            → self.new.window ≡ self.old.window }
+        ensures minimum { self.old.window ≤ 2 * datagram_of new_mtu
+            → self.new.window ≡ 2 * datagram_of new_mtu }
     {
         self.current_mtu = new_mtu;
         self.window = self.least_window().max(self.window);

@@ -180,6 +180,19 @@ fn cubic_starts_anew_behind_persistent_congestion(rt: HostRuntime) {
     play(&rt, 120_000, &ROWS);
 }
 
+/// A new MTU leaves a window of two datagrams or more (RFC 8899, 3).
+#[test]
+fn cubic_window_does_not_follow_the_mtu(rt: HostRuntime) {
+    static ROWS: [(Call, u64); 5] = [
+        (Call::Lost(1000), 8400),
+        (Call::Mtu(4200), 8400),
+        (Call::Mtu(4201), 8402),
+        (Call::Mtu(1452), 8402),
+        (Call::Mtu(1200), 8402),
+    ];
+    play(&rt, 12_000, &ROWS);
+}
+
 #[test]
 fn cubic_window_is_two_mtus_at_least(rt: HostRuntime) {
     static ROWS: [(Call, u64); 7] = [
