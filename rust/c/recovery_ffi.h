@@ -117,6 +117,8 @@ enum recovery_refusal {
     // A number was acknowledged that was never sent (RFC 9000, 13.1): of a sender alone. The errors of senders are
     // above those of events, so that new errors of events do not meet them.
     RECOVERY_REFUSAL_UNSENT = 128,
+    // The space of 1-RTT packets is never discarded (RFC 9001, 4.9): of a sender alone.
+    RECOVERY_REFUSAL_DATA_SPACE = 129,
     // Only the sender itself makes this event; a caller cannot.
     RECOVERY_REFUSAL_DECIDED = 252,
     // The handle holds a bare recovery, without a sender.
@@ -383,6 +385,9 @@ struct recovery_ack_frame {
     uint64_t packets_room;
     // If `is_limited`: how many lost numbers of `recovery_ffi_told_numbers` it has room for.
     uint64_t lost_room;
+    // If `has_received`: when the frame was received, in nanoseconds. A later time than that of the call counts as
+    // that.
+    uint64_t received;
     // The rest of the ACK delay in nanoseconds, below 10^9.
     uint32_t delay_nanos;
     // Whether the frame has ECN counts.
@@ -392,6 +397,8 @@ struct recovery_ack_frame {
     // Whether the frame is processed only if the caller has room for all that it may read of the outcome. If not, the
     // caller may read the outcome later.
     bool is_limited;
+    // Whether the frame was received earlier than it is processed (RFC 9002, 5.3).
+    bool has_received;
 };
 
 // A range of numbers that an ACK frame acknowledges (RFC 9000, 19.3.1).
@@ -496,7 +503,8 @@ struct recovery_encoded_reply {
     // New: whether to start the ACK delay timer. Sent: whether a non-ack-eliciting packet was forgotten for it. Acked,
     // lost: whether it was the path's MTU probe. Retire: whether any connection IDs are to be retired. Flag: yes or
     // no. Timeout: whether a timer is running. Black hole: whether one was reported. Sendable: whether an ACK is to be
-    // sent. Acknowledged: whether the outcome has more than the two counts. Otherwise false.
+    // sent. Full, delayed by a sender: whether an ACK is required in the space. Acknowledged: whether the outcome has
+    // more than the two counts. Otherwise false.
     bool flag;
     // Sendable: whether there is something else to send. Otherwise false.
     bool other;
@@ -514,7 +522,8 @@ struct recovery_encoded_reply {
 
 // The purpose of a sender's loss detection timer, and the room that is left on the path in use.
 struct recovery_sender_view {
-    // How many bytes more fit into the congestion window (RFC 9002, 7).
+    // How many bytes more fit into the congestion window (RFC 9002, 7). Ask `recovery_ffi_sender_transmit` for what
+    // waits even if there is no room.
     uint64_t window_room;
     // How many more bytes the amplification limit permits, if `is_limited` (RFC 9000, 8.1); else `u64::MAX`.
     uint64_t amplification_room;
@@ -1048,7 +1057,10 @@ uint8_t recovery_ffi_sender_established(struct recovery_handle *handle, bool cli
 // the datagram is counted; `RECOVERY_ANSWER_BLOCKED` by the amplification limit (RFC 9000, 8.1); `RECOVERY_ANSWER_FULL`
 // if the window has no room (RFC 9002, 7); or `RECOVERY_ANSWER_DELAYED` by the pacer, until `first` (RFC 9002, 7.7). If
 // nothing in it counts in flight, or a probe is due in the space, only the amplification limit is checked. Report
-// its packets by `recovery_ffi_send` before the next datagram. Errors: `RECOVERY_REFUSAL_SPACE_DISCARDED`, then
+// its packets by `recovery_ffi_send` before the next datagram. If the window or the pacer holds it back, `flag` is
+// whether an ACK is required in the space. Then send an ACK alone: ask again with `in_flight` false (RFC 9000,
+// 13.2.1). Call it for whatever waits to be sent, also if the window is full: until the handshake is confirmed, the
+// sender probes for an Initial or Handshake datagram that finds no room. Errors: `RECOVERY_REFUSAL_SPACE_DISCARDED`, then
 // `RECOVERY_REFUSAL_OVERFLOW`.
 //
 // In rust/c/transfer.c:
@@ -1098,7 +1110,8 @@ struct recovery_encoded_reply recovery_ffi_sender_on_timeout(struct recovery_han
 struct recovery_encoded_reply recovery_ffi_sender_probe(struct recovery_handle *handle, uint8_t space, bool immediate_ack);
 
 // Discards a space with its keys and its tracked packets, and resets the count of probe timeouts (RFC 9002, 6.2.2,
-// 6.4 and A.11): `RECOVERY_ANSWER_DONE`. Error: `RECOVERY_REFUSAL_SPACE_DISCARDED`.
+// 6.4 and A.11): `RECOVERY_ANSWER_DONE`. Errors: `RECOVERY_REFUSAL_DATA_SPACE` for the space of 1-RTT packets, which is never
+// discarded (RFC 9001, 4.9); `RECOVERY_REFUSAL_SPACE_DISCARDED`.
 //
 // In rust/c/handshake.c:
 //
@@ -1249,6 +1262,7 @@ static inline const char *recovery_ffi_text(uint8_t refusal) {
     case RECOVERY_REFUSAL_BAD_RANGE: return "invalid range of packet numbers";
     case RECOVERY_REFUSAL_CONFLICT: return "the connection ID conflicts with the stored one";
     case RECOVERY_REFUSAL_UNSENT: return "a number was acknowledged that was never sent";
+    case RECOVERY_REFUSAL_DATA_SPACE: return "the space of 1-RTT packets is never discarded";
     case RECOVERY_REFUSAL_DECIDED: return "only the sender itself makes this event; a caller cannot";
     case RECOVERY_REFUSAL_NO_SENDER: return "the handle holds a bare recovery, without a sender";
     case RECOVERY_REFUSAL_NO_RECOVERY: return "the handle holds no recovery";
@@ -1327,6 +1341,11 @@ static inline uint64_t recovery_in_flight_ack_eliciting(struct recovery_encoded_
 
 // Until when the pacer delays the datagram, in nanoseconds.
 static inline uint64_t recovery_delayed_until(struct recovery_encoded_reply reply) { return reply.first; }
+// Whether an ACK is required in the space, for a sender.
+static inline bool recovery_delayed_ack(struct recovery_encoded_reply reply) { return reply.flag; }
+
+// Whether an ACK is required in the space.
+static inline bool recovery_full_ack(struct recovery_encoded_reply reply) { return reply.flag; }
 
 // The number of the probe's packet.
 static inline uint64_t recovery_probe_number(struct recovery_encoded_reply reply) { return reply.first; }
@@ -1383,7 +1402,7 @@ struct rattle_tried rattle_realloc(void *old, size_t kept, size_t size, size_t a
 void rattle_dealloc(void *old);
 
 // Does nothing. A library of another layout does not have it, so a program with this header does not link with it.
-void recovery_ffi_layout(void) __asm__("recovery_ffi_layout_1f8f7fce");
+void recovery_ffi_layout(void) __asm__("recovery_ffi_layout_a23a1a99");
 __attribute__((used)) static void (*const recovery_ffi_has_this_layout)(void) = recovery_ffi_layout;
 
 #ifdef __cplusplus

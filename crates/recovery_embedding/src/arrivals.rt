@@ -22,6 +22,7 @@ impl Connection {
             delay,
             ecn,
             app_limited: self.app_limited,
+            received: None,
         };
         self.sender.on_ack(space, now, ranges, ack)
     }
@@ -46,9 +47,9 @@ impl Connection {
         self.sender.probe(space, false, ())
     }
 
-    /// Declares all packets of a space lost, since a Retry was received or the server rejected 0-RTT (RFC 9002, 6.3 and
-    /// 6.4). Their contents wait for retransmission. If allocation failed for some, `is_cut` is true, and the same call
-    /// continues with them.
+    /// Declares all packets of a space lost, since a Retry was received, the server rejected 0-RTT (RFC 9002, 6.3 and
+    /// 6.4), or the connection closes. Their contents wait for retransmission. If allocation failed for some, `is_cut`
+    /// is true, and the same call continues with them.
     pub fn sent_in_vain(
         &mut self,
         space: SpaceId,

@@ -422,8 +422,7 @@ fn close(report: &mut Report, client: &mut Connection) -> Result<(), SenderError
     client.close(at(15_000))?;
     let ends = client.next_timeout()?;
     report.value("closing, until a timer expires", &ends.is_some());
-    if let Err(refused) = client.transmit(at(15_000), 1200, SpaceId::Data) {
-        report.refusal("a datagram", refused);
-    }
+    let bytes = client.in_flight(PathName::Current)?;
+    report.value("closing, bytes in flight", &bytes);
     Ok(())
 }

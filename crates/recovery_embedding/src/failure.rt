@@ -12,6 +12,8 @@ pub enum Failure {
     SenderError(#[from] Refusal),
     #[error("the number was never sent")]
     Unsent,
+    #[error("the space of 1-RTT packets is never discarded")]
+    DataSpace,
     #[error("cannot be written: {0}")]
     Io(#[from] io::Error),
     #[error("{0}")]
@@ -23,6 +25,7 @@ impl From<SenderError> for Failure {
         match refused {
             SenderError::Event(refusal) => Failure::SenderError(refusal),
             SenderError::Unsent => Failure::Unsent,
+            SenderError::DataSpace => Failure::DataSpace,
         }
     }
 }

@@ -25,8 +25,8 @@ pub enum Departure {
 fn departure_of(sent: &Transmission) -> Departure {
     match sent {
         Transmission::Transmitted => Departure::Now,
-        Transmission::Delayed(moment) => Departure::Later(moment.as_nanos()),
-        Transmission::Full => Departure::Full,
+        Transmission::Delayed { until, .. } => Departure::Later(until.as_nanos()),
+        Transmission::Full { .. } => Departure::Full,
         Transmission::Blocked => Departure::Blocked,
     }
 }

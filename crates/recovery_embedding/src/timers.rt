@@ -51,13 +51,15 @@ impl Connection {
         timeout + timeout + timeout
     }
 
-    /// Closes the connection: only its end remains, in three probe timeouts (RFC 9000, 10.2).
+    /// Closes the connection: only its end remains, in three probe timeouts (RFC 9000, 10.2). What is in flight is
+    /// given up, so that the sender sets no timer any more.
     pub fn close(&mut self, now: Instant) -> Result<(), SenderError> {
         for timer in Timer::VALUES {
             self.stop_timer(timer)?;
         }
         let patience = self.three_timeouts();
         self.set_timer(Timer::Close, now + patience)?;
-        self.sender.discard(SpaceId::Data, now)
+        self.sent_in_vain(SpaceId::Data, now)?;
+        Ok(())
     }
 }

@@ -9,7 +9,7 @@ use Rattle.recovery_spaces.specs.Packets.{Packets}
 use Rattle.recovery_sender.specs.RetransmitAll.{DeclaresAllLost}
 use Rattle.recovery_sender.specs.Acking.{AckResult, IsAckAcceptable}
 use Rattle.recovery_losses.specs.Variables.{begun_anew, is_probe_due}
-use Rattle.recovery_sender.specs.Calls.{ChangesRtt, bytes_in_flight, challenged, discard_reply, is_checked, transmit_reply, transmit_steps, window_of, ProbeResult}
+use Rattle.recovery_sender.specs.Calls.{ChangesRtt, PermitsAckAlone, after_transmit, bytes_in_flight, challenged, discard_reply, is_checked, transmit_steps, window_of, IsTransmissionReply, ProbeResult}
 use Rattle.recovery_sender.specs.Senders.{state_in}
 use Rattle.recovery_sender.specs.Spaces.{packets_in}
 use Rattle.recovery_sender.specs.Steps as Steps
@@ -33,7 +33,7 @@ use Rattle.recovery_engine.specs.Kept.{packets_listed, HasLossesOnly}
 use Rattle.recovery_engine.specs.Replies.{no_memory, no_sender, plain, refusal_spelled, space_number}
 use Rattle.recovery_engine.specs.declared.kept.Engine.{Engine}
 use Rattle.recovery_engine.specs.declared.kept.Engine.TheVariants.{Alone, Sends}
-use Rattle.recovery_engine.specs.declared.numbers.TheConstants.{ANSWER_ACKNOWLEDGED, ANSWER_BLOCKED, ANSWER_DELAYED, ANSWER_DONE, ANSWER_FULL, ANSWER_LOSSES, ANSWER_NEEDS_ROOM, ANSWER_NOTHING, ANSWER_PROBES, ANSWER_REFUSED, ANSWER_TRANSMITTED, ECN_FAILED, ECN_MARKED, ECN_QUIET, REFUSAL_UNSENT}
+use Rattle.recovery_engine.specs.declared.numbers.TheConstants.{ANSWER_ACKNOWLEDGED, ANSWER_BLOCKED, ANSWER_DELAYED, ANSWER_DONE, ANSWER_FULL, ANSWER_LOSSES, ANSWER_NEEDS_ROOM, ANSWER_NOTHING, ANSWER_PROBES, ANSWER_REFUSED, ANSWER_TRANSMITTED, ECN_FAILED, ECN_MARKED, ECN_QUIET, REFUSAL_DATA_SPACE, REFUSAL_UNSENT}
 use Rattle.recovery_engine.specs.declared.sending.AckRange.{AckRange}
 use Rattle.recovery_engine.specs.declared.sending.AckRoom.{AckRoom}
 use Rattle.recovery_engine.specs.declared.sending.Call.{Call}
@@ -49,6 +49,7 @@ use Rattle.recovery_engine.specs.declared.spelling.EncodedReply.{EncodedReply}
 abbrev pub refused_spelled : SenderError → EncodedReply
 refused_spelled (refused.Event refusal) = refusal_spelled refusal
 refused_spelled refused.Unsent = record (plain ANSWER_REFUSED) { refusal = REFUSAL_UNSENT }
+refused_spelled refused.DataSpace = record (plain ANSWER_REFUSED) { refusal = REFUSAL_DATA_SPACE }
 
 abbrev pub spelled_by : {T : Type 0} → (T → EncodedReply) → Result T SenderError → EncodedReply
 spelled_by spell (Ok answer) = spell answer
@@ -57,8 +58,8 @@ spelled_by spell (Err refusal) = refused_spelled refusal
 abbrev pub transmission_spelled : Transmission → EncodedReply
 transmission_spelled Transmitted = plain ANSWER_TRANSMITTED
 transmission_spelled Blocked = plain ANSWER_BLOCKED
-transmission_spelled Full = plain ANSWER_FULL
-transmission_spelled (Delayed until) = record (plain ANSWER_DELAYED) { first = until }
+transmission_spelled (Full ack) = record (plain ANSWER_FULL) { flag = ack }
+transmission_spelled (Delayed until ack) = record (plain ANSWER_DELAYED) { flag = ack; first = until }
 
 abbrev pub losses_spelled : SpaceId → EncodedReply
 losses_spelled space = record (plain ANSWER_LOSSES) { first = space_number space }
@@ -90,12 +91,15 @@ acknowledged_spelled told = record (plain ANSWER_ACKNOWLEDGED) {
 pub record TransmitReply (now bytes : ℕ) (space : SpaceId) (in_flight : Bool) (old : Sending) (spelling : EncodedReply)
     (new : Sending) : Type 0 where
   pub reply : Result Transmission SenderError
-  pub is : reply ≡ transmit_reply chosen_words (state_in old.sender) old.sender.variables now bytes space in_flight
+  pub is : IsTransmissionReply chosen_words (state_in old.sender) old.sender.variables now bytes space in_flight reply
   pub window : reply ≡ Ok Transmitted → in_flight ≡ true
       → is_probe_due old.sender.variables space ≡ false
       → bytes_in_flight (state_in old.sender) + bytes ≤ window_of chosen_words (state_in old.sender)
   pub steps : IfOk reply (λ sent. let checked = is_checked old.sender.variables space in_flight in
-      CompletesCall (transmit_steps now bytes checked sent) old.sender.variables old.sender new.sender)
+      CompletesCall (transmit_steps now bytes checked sent)
+      (after_transmit now space in_flight sent old.sender.variables) old.sender new.sender)
+  -- if it has to wait, an ACK alone of its size need not
+  pub alone : IfOk reply (λ sent. PermitsAckAlone (state_in new.sender) space bytes sent)
   pub stays : OnErr reply (new.sender ≡ old.sender)
   pub spells : spelling ≡ spelled_by transmission_spelled reply
   pub told : new.told ≡ old.told

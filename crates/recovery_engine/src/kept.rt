@@ -82,7 +82,7 @@ fn passed(sending: &mut Sending, event: Event<ItemQueue>) -> Result<Answer<ItemQ
     match sending.sender.on_event(event) {
         Ok(answer) => Ok(answer),
         Err(SenderError::Event(refusal)) => Err(refusal),
-        Err(SenderError::Unsent) => unreachable!(),
+        Err(_) => unreachable!(),
     }
 }
 
@@ -105,7 +105,7 @@ fn sent(sending: &mut Sending, packet: ItemPacket) -> Result<Answer<ItemQueue>, 
     match sent {
         Ok(answer) => Ok(answer),
         Err(SenderError::Event(refusal)) => Err(refusal),
-        Err(SenderError::Unsent) => unreachable!(),
+        Err(_) => unreachable!(),
     }
 }
 

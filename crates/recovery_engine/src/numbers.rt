@@ -58,6 +58,8 @@ pub const ANSWER_REFUSED: u8 = 255;
 /// A number was acknowledged that was never sent (RFC 9000, 13.1): of a sender alone. The errors of senders are
 /// above those of events, so that new errors of events do not meet them.
 pub const REFUSAL_UNSENT: u8 = 128;
+/// The space of 1-RTT packets is never discarded (RFC 9001, 4.9): of a sender alone.
+pub const REFUSAL_DATA_SPACE: u8 = 129;
 /// Only the sender itself makes this event; a caller cannot.
 pub const REFUSAL_DECIDED: u8 = 252;
 /// The handle holds a bare recovery, without a sender.

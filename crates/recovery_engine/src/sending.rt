@@ -11,7 +11,7 @@ use crate::kept::ItemSender;
 use crate::numbers::{
     ANSWER_ACKNOWLEDGED, ANSWER_BLOCKED, ANSWER_DELAYED, ANSWER_DONE, ANSWER_FULL, ANSWER_LOSSES,
     ANSWER_NEEDS_ROOM, ANSWER_NOTHING, ANSWER_PROBES, ANSWER_REFUSED, ANSWER_TRANSMITTED,
-    ECN_FAILED, ECN_MARKED, ECN_QUIET, REFUSAL_UNSENT,
+    ECN_FAILED, ECN_MARKED, ECN_QUIET, REFUSAL_DATA_SPACE, REFUSAL_UNSENT,
 };
 use crate::spelling::{EncodedReply, encode_number, encode_refusal, space_number};
 use recovery_base::below::SpaceId;
@@ -272,6 +272,10 @@ fn spell_refused(refused: SenderError) -> EncodedReply
             refusal: REFUSAL_UNSENT,
             ..EncodedReply::plain(ANSWER_REFUSED)
         },
+        SenderError::DataSpace => EncodedReply {
+            refusal: REFUSAL_DATA_SPACE,
+            ..EncodedReply::plain(ANSWER_REFUSED)
+        },
     }
 }
 
@@ -281,8 +285,15 @@ fn spell_transmission(sent: Transmission) -> EncodedReply
     match sent {
         Transmission::Transmitted => EncodedReply::plain(ANSWER_TRANSMITTED),
         Transmission::Blocked => EncodedReply::plain(ANSWER_BLOCKED),
-        Transmission::Full => EncodedReply::plain(ANSWER_FULL),
-        Transmission::Delayed(until) => encode_number(ANSWER_DELAYED, until.as_nanos()),
+        Transmission::Full { ack } => EncodedReply {
+            flag: ack,
+            ..EncodedReply::plain(ANSWER_FULL)
+        },
+        Transmission::Delayed { until, ack } => EncodedReply {
+            flag: ack,
+            first: until.as_nanos(),
+            ..EncodedReply::plain(ANSWER_DELAYED)
+        },
     }
 }
 

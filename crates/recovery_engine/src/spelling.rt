@@ -27,7 +27,8 @@ pub struct EncodedReply {
     /// New: whether to start the ACK delay timer. Sent: whether a non-ack-eliciting packet was forgotten for it. Acked,
     /// lost: whether it was the path's MTU probe. Retire: whether any connection IDs are to be retired. Flag: yes or
     /// no. Timeout: whether a timer is running. Black hole: whether one was reported. Sendable: whether an ACK is to be
-    /// sent. Acknowledged: whether the outcome has more than the two counts. Otherwise false.
+    /// sent. Full, delayed by a sender: whether an ACK is required in the space. Acknowledged: whether the outcome has
+    /// more than the two counts. Otherwise false.
     pub flag: bool,
     /// Sendable: whether there is something else to send. Otherwise false.
     pub other: bool,

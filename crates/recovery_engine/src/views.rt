@@ -16,7 +16,8 @@ use recovery_sender::TimerState;
 #[repr(C)]
 #[derive(Clone, Copy)]
 pub struct SenderView {
-    /// How many bytes more fit into the congestion window (RFC 9002, 7).
+    /// How many bytes more fit into the congestion window (RFC 9002, 7). Ask `recovery_ffi_sender_transmit` for what
+    /// waits even if there is no room.
     pub window_room: u64,
     /// How many more bytes the amplification limit permits, if `is_limited` (RFC 9000, 8.1); else `u64::MAX`.
     pub amplification_room: u64,

@@ -3,4 +3,4 @@
 /// A program for this layout names this function, and so links only with a library of the same layout.
 /// Does nothing.
 #[unsafe(no_mangle)]
-pub extern "C" fn recovery_ffi_layout_1f8f7fce() {}
+pub extern "C" fn recovery_ffi_layout_a23a1a99() {}

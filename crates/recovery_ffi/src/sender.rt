@@ -84,7 +84,10 @@ pub extern "C" fn recovery_ffi_sender_established(
 /// the datagram is counted; `ANSWER_BLOCKED` by the amplification limit (RFC 9000, 8.1); `ANSWER_FULL`
 /// if the window has no room (RFC 9002, 7); or `ANSWER_DELAYED` by the pacer, until `first` (RFC 9002, 7.7). If
 /// nothing in it counts in flight, or a probe is due in the space, only the amplification limit is checked. Report
-/// its packets by `recovery_ffi_send` before the next datagram. Errors: `REFUSAL_SPACE_DISCARDED`, then
+/// its packets by `recovery_ffi_send` before the next datagram. If the window or the pacer holds it back, `flag` is
+/// whether an ACK is required in the space. Then send an ACK alone: ask again with `in_flight` false (RFC 9000,
+/// 13.2.1). Call it for whatever waits to be sent, also if the window is full: until the handshake is confirmed, the
+/// sender probes for an Initial or Handshake datagram that finds no room. Errors: `REFUSAL_SPACE_DISCARDED`, then
 /// `REFUSAL_OVERFLOW`.
 #[unsafe(no_mangle)]
 pub extern "C" fn recovery_ffi_sender_transmit(
@@ -175,7 +178,8 @@ pub extern "C" fn recovery_ffi_sender_probe(
 }
 
 /// Discards a space with its keys and its tracked packets, and resets the count of probe timeouts (RFC 9002, 6.2.2,
-/// 6.4 and A.11): `ANSWER_DONE`. Error: `REFUSAL_SPACE_DISCARDED`.
+/// 6.4 and A.11): `ANSWER_DONE`. Errors: `REFUSAL_DATA_SPACE` for the space of 1-RTT packets, which is never
+/// discarded (RFC 9001, 4.9); `REFUSAL_SPACE_DISCARDED`.
 #[unsafe(no_mangle)]
 pub extern "C" fn recovery_ffi_sender_discard(
     alloc: Global,

@@ -30,18 +30,24 @@ module _ (words : List (List ℕ)) where
 
     pub no_ranges : ranges_read left ≡ None → (frame : Frame) → ¬ SaysAck (codes "ack" ∷ words) frame
     no_ranges none frame says =
-        grind (arith, none, behind_is frame says, ranges_again says.behind frame.ranges.items frame.ack.ecn says.ranges)
+        grind (
+          arith,
+          none,
+          behind_is frame says,
+          ranges_again says.behind frame.ranges.items (frame.ack.ecn, frame.ack.received) says.ranges,
+        )
 
-    pub empty_ranges : (ecn : Option EcnCounts) (ranges : List (ℕ × ℕ)) → ranges_read left ≡ Some (ranges, ecn)
-        → length ranges ≡ 0 → (frame : Frame) → ¬ SaysAck (codes "ack" ∷ words) frame
-    empty_ranges ecn ranges read none frame says =
-        let again = ranges_again says.behind frame.ranges.items frame.ack.ecn says.ranges in
+    pub empty_ranges : (end : Option EcnCounts × Option ℕ) (ranges : List (ℕ × ℕ))
+        → ranges_read left ≡ Some (ranges, end) → length ranges ≡ 0 → (frame : Frame)
+        → ¬ SaysAck (codes "ack" ∷ words) frame
+    empty_ranges end ranges read none frame says =
+        let again = ranges_again says.behind frame.ranges.items (frame.ack.ecn, frame.ack.received) says.ranges in
         let same : ranges ≡ frame.ranges.items = grind (arith, read, again, behind_is frame says) in
         omega (arith, none, ap length same, says.some)
 
     pub front_taken : (frame : Frame) → ack_values frame ≡ (space, (now, (delay, (app_limited, tt))))
-        → ranges_read left ≡ Some (frame.ranges.items, frame.ack.ecn) → 0 < length frame.ranges.items
-        → SaysAck (codes "ack" ∷ words) frame
+        → ranges_read left ≡ Some (frame.ranges.items, (frame.ack.ecn, frame.ack.received))
+        → 0 < length frame.ranges.items → SaysAck (codes "ack" ∷ words) frame
     front_taken frame is read some =
         let r = fields_front no_tail ack_fields front_made words (space, now, delay, app_limited)
         left (sym (all_is no_tail ack_fields _ words) ∙ front) in
@@ -50,6 +56,6 @@ module _ (words : List (List ℕ)) where
           behind = left;
           are = ap (λ (w : List (List ℕ)). codes "ack" ∷ w) (rw values at r.1.0);
           fit = rw values at r.1.1;
-          ranges = ranges_take left frame.ranges.items frame.ack.ecn read;
+          ranges = ranges_take left frame.ranges.items (frame.ack.ecn, frame.ack.received) read;
           some = some;
         }

@@ -8,7 +8,7 @@ use Rattle.recovery_sender.specs.declared.calls.CallRecord.{CallRecord}
 use Rattle.recovery_sender.specs.declared.calls.CallReplyValue.{CallReplyValue}
 use Rattle.recovery_sender.specs.declared.calls.CallReplyValue.TheVariants as replies
 use Rattle.recovery_sender.specs.declared.sender.SenderError.{SenderError}
-use Rattle.recovery_sender.specs.declared.sender.SenderError.TheVariants.{Event, Unsent}
+use Rattle.recovery_sender.specs.declared.sender.SenderError.TheVariants.{DataSpace, Event, Unsent}
 use Rattle.recovery_sender.specs.declared.sender.acks.Acknowledged.{Acknowledged}
 use Rattle.recovery_sender.specs.declared.sender.acks.EcnOutcome.{EcnOutcome}
 use Rattle.recovery_sender.specs.declared.sender.acks.EcnOutcome.TheVariants.{Quiet, Marked, Failed}
@@ -75,11 +75,15 @@ acked_text numbers losses ecn = if length numbers == 0 then codes "acked none"
 
 -- ---- other replies
 
+-- whether an ACK is required in the space (RFC 9000, 13.2.1)
+abbrev pub required_text : Bool → List ℕ
+required_text ack = if ack then codes " ack" else []
+
 abbrev pub transmission_text : Transmission → List ℕ
 transmission_text Transmitted = codes "transmitted"
 transmission_text Blocked = codes "blocked"
-transmission_text Full = codes "full"
-transmission_text (Delayed until) = codes "delayed " ++ decimal until
+transmission_text (Full ack) = codes "full" ++ required_text ack
+transmission_text (Delayed until ack) = codes "delayed " ++ decimal until ++ required_text ack
 
 abbrev pub timeout_text : Timeout → List ℕ
 timeout_text Nothing = codes "nothing"
@@ -109,6 +113,7 @@ abbrev pub call_text : Result ItemReply SenderError → Option ℕ → List ℕ
 call_text (Ok reply) timer = reply_text reply ++ timer_text timer
 call_text (Err (Event refusal)) timer = refusal_text refusal
 call_text (Err Unsent) timer = codes "refused 128 Unsent"
+call_text (Err DataSpace) timer = codes "refused 129 DataSpace"
 
 -- a line for each call
 abbrev pub said_line : CallRecord (List ℕ) → List ℕ

@@ -82,24 +82,30 @@ abbrev pub ecn_words : Option EcnCounts → List (List ℕ)
 ecn_words None = []
 ecn_words (Some counts) = codes "ecn" ∷ decimal counts.ect0 ∷ decimal counts.ect1 ∷ decimal counts.ce ∷ []
 
+-- when the frame was received, if that is given (RFC 9002, 5.3)
+abbrev pub received_words : Option ℕ → List (List ℕ)
+received_words None = []
+received_words (Some time) = codes "received" ∷ decimal time ∷ []
+
 abbrev pub FitCounts : EcnCounts → Type 0
 FitCounts counts = (counts.ect0 < u64_limit) × (counts.ect1 < u64_limit) × (counts.ce < u64_limit)
 
 abbrev pub IsRange : ℕ × ℕ → Type 0
 IsRange range = (range.0 < u64_limit) × (range.1 < u64_limit)
 
--- words are ranges and then ECN counts, if there are any
-pub record SaysRanges (words : List (List ℕ)) (ranges : List (ℕ × ℕ)) (ecn : Option EcnCounts) : Type 0 where
-  pub are : words ≡ range_words ranges ++ ecn_words ecn
+-- words are ranges, and then ECN counts and the time of receipt, if there are any
+pub record SaysRanges (words : List (List ℕ)) (ranges : List (ℕ × ℕ)) (end : Option EcnCounts × Option ℕ) : Type 0 where
+  pub are : words ≡ range_words ranges ++ (ecn_words end.0 ++ received_words end.1)
   pub fit : AllByRecursion IsRange ranges
-  pub counts : IfSome ecn FitCounts
+  pub counts : IfSome end.0 FitCounts
+  pub time : IfSome end.1 (λ time. time < u64_limit)
 
 -- words are `ack`, the values of a frame's fields and its ranges, of which there is at least one
 pub record SaysAck (words : List (List ℕ)) (frame : Frame) : Type 0 where
   pub behind : List (List ℕ)
   pub are : words ≡ codes "ack" ∷ (words_for no_tail ack_fields (ack_values frame) ++ behind)
   pub fit : AllFitFieldTypes no_tail ack_fields (ack_values frame)
-  pub ranges : SaysRanges behind frame.ranges.items frame.ack.ecn
+  pub ranges : SaysRanges behind frame.ranges.items (frame.ack.ecn, frame.ack.received)
   pub some : 0 < length frame.ranges.items
 
 -- ---- all of them

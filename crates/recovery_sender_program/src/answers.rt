@@ -4,7 +4,7 @@ ghost use Rattle.std.specs.Prelude.{◌≡◌, ◌++◌, OnOk, decimal};
 ghost use Rattle.recovery_replay.specs.Answering.{ExtendsText};
 ghost use Rattle.recovery_script_syntax.specs.Answers.{answer_text, items_text};
 ghost use Rattle.recovery_script_syntax.specs.Words.{space_word};
-ghost use Rattle.recovery_sender_program.specs.CallAnswers.{acked_text, congestion_text, ecn_text, is_without, lost_behind, lost_numbers, losses_text, mark_text, marks_text, reply_text, retransmitted_text, said_line, timeout_text, timer_text, transmission_text};
+ghost use Rattle.recovery_sender_program.specs.CallAnswers.{acked_text, congestion_text, ecn_text, is_without, lost_behind, lost_numbers, losses_text, mark_text, marks_text, reply_text, required_text, retransmitted_text, said_line, timeout_text, timer_text, transmission_text};
 
 use recovery_base::below::SpaceId;
 use recovery_base::time::Instant;
@@ -129,14 +129,30 @@ fn push_acknowledged(text: &mut String, acknowledged: &Acknowledged) -> Result<(
     push_ecn(text, acknowledged.ecn)
 }
 
+/// Appends whether an ACK is required.
+fn push_required(text: &mut String, ack: bool) -> Result<(), AllocError>
+    ensures { OnOk result (ExtendsText text.old (required_text ack) text.new) }
+{
+    if ack {
+        return text.push_str(" ack");
+    }
+    Ok(())
+}
+
 fn push_transmission(text: &mut String, transmission: Transmission) -> Result<(), AllocError>
     ensures { OnOk result (ExtendsText text.old (transmission_text transmission) text.new) }
 {
     match transmission {
         Transmission::Transmitted => text.push_str("transmitted"),
         Transmission::Blocked => text.push_str("blocked"),
-        Transmission::Full => text.push_str("full"),
-        Transmission::Delayed(until) => push_number(text, "delayed ", until.as_nanos()),
+        Transmission::Full { ack } => {
+            text.push_str("full")?;
+            push_required(text, ack)
+        }
+        Transmission::Delayed { until, ack } => {
+            push_number(text, "delayed ", until.as_nanos())?;
+            push_required(text, ack)
+        }
     }
 }
 
@@ -214,6 +230,13 @@ fn push_unsent(text: &mut String) -> Result<(), AllocError>
     text.push_str("refused 128 Unsent")
 }
 
+/// Appends the error of a discard of the space of 1-RTT packets.
+fn push_data_space(text: &mut String) -> Result<(), AllocError>
+    ensures { OnOk result (ExtendsText text.old (codes "refused 129 DataSpace") text.new) }
+{
+    text.push_str("refused 129 DataSpace")
+}
+
 /// Appends the line of a call, with the loss detection timer unless it is an error.
 pub fn write_said(
     alloc: Global,
@@ -230,6 +253,7 @@ pub fn write_said(
         }
         Err(SenderError::Event(refusal)) => push_answer(alloc, text, &Err(refusal))?,
         Err(SenderError::Unsent) => push_unsent(text)?,
+        Err(SenderError::DataSpace) => push_data_space(text)?,
     }
     text.push_str("\n")
 }

@@ -50,7 +50,7 @@ fn side_in(word: &str) -> Option<(Side, bool)> {
     match word {
         "client" => Some((Side::Client, false)),
         "server" => Some((Side::Server, false)),
-        "established" => Some((Side::Client, true)),
+        "established" => Some((Side::Server, true)),
         _ => None,
     }
 }

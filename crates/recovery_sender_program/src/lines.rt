@@ -4,7 +4,7 @@ ghost use Rattle.recovery_script_syntax.specs.Forms.{IsItemOf};
 ghost use Rattle.recovery_script_syntax.specs.Reading.{ReadsBy, line_behind, reading, words_left};
 ghost use Rattle.recovery_sender.specs.Calls.{IsPassedThrough};
 ghost use Rattle.recovery_sender_program.specs.CallLines.{EncodesCall, abandon, call_forms, connection_forms, datagram, discard, peer_delay, probe, timeout, transmit};
-ghost use Rattle.recovery_sender_program.specs.CallReading.{AreRangesRead, IsAckRead, IsPassedRead, counts_read, front_read, range_read};
+ghost use Rattle.recovery_sender_program.specs.CallReading.{AreRangesRead, IsAckRead, IsPassedRead, counts_read, end_read, front_read, is_end_name, range_read, received_read, time_read};
 
 use recovery_base::below::{EcnCounts, NoMemory, SpaceId};
 use recovery_base::time::{Duration, Instant};
@@ -16,6 +16,9 @@ use recovery_script_syntax::lines::{LINE_LIMIT, event_in};
 use recovery_script_syntax::words::{Words, is_name, number_in};
 use recovery_sender::{Asking, Call, Datagram, Frame, passes};
 use std::alloc::Global;
+
+/// The ECN counts of an ACK frame, and when it was received, if these are given.
+type FrameEnd = (Option<EcnCounts>, Option<Instant>);
 
 /// A line for each call, with words that fit.
 const EXAMPLES: [&str; 37] = [
@@ -201,7 +204,7 @@ fn ack_front(words: &mut Words<'_>) -> Option<(SpaceId, Instant, Duration, bool)
     ))
 }
 
-/// Parses an ACK frame: its ranges, followed by the ECN counts.
+/// Parses an ACK frame: its ranges, followed by the ECN counts and the time of receipt.
 fn ack(alloc: Global, words: &mut Words<'_>) -> Result<Option<Call<ItemQueue>>, NoMemory>
     ensures { IfOk result (IsAckRead (words_left words.old)) }
 {
@@ -209,7 +212,7 @@ fn ack(alloc: Global, words: &mut Words<'_>) -> Result<Option<Call<ItemQueue>>, 
         return Ok(None);
     };
     let mut ranges = Vec::new(alloc);
-    let Some(ecn) = read_ranges(words, &mut ranges)? else {
+    let Some((ecn, received)) = read_ranges(words, &mut ranges)? else {
         return Ok(None);
     };
     if ranges.is_empty() {
@@ -219,6 +222,7 @@ fn ack(alloc: Global, words: &mut Words<'_>) -> Result<Option<Call<ItemQueue>>, 
         delay,
         ecn,
         app_limited,
+        received,
     };
     Ok(Some(Call::Ack(Frame {
         space,
@@ -238,40 +242,84 @@ fn range_in(word: &[u8], words: &mut Words<'_>) -> Option<(u64, u64)>
     Some((first, last))
 }
 
-/// Parses ranges to the end of the line, or to the ECN counts, which it returns.
+/// Parses ranges to the end of the line, or to a name. Returns the ECN counts and the time of receipt that follow.
 fn read_ranges(
     words: &mut Words<'_>,
     ranges: &mut Vec<(u64, u64)>,
-) -> Result<Option<Option<EcnCounts>>, NoMemory>
+) -> Result<Option<FrameEnd>, NoMemory>
     requires { ranges.old.items ≡ [] }
     ensures { IfOk result (AreRangesRead (words_left words.old) ranges.new.items) }
 {
     while let Some(word) = words.next() {
-        if is_name(word, "ecn") {
-            return match last_counts(words) {
-                Some(counts) => Ok(Some(Some(counts))),
-                None => Ok(None),
-            };
+        if is_end_name(word) {
+            return Ok(frame_end(word, words));
         }
         let Some(range) = range_in(word, words) else {
             return Ok(None);
         };
         ranges.push(range)?;
     }
-    Ok(Some(None))
+    Ok(Some((None, None)))
 }
 
-/// Parses the ECN counts that end a line.
-#[tactic(auto, unfolding(recovery_script_syntax::specs::Reading::fields_read))]
-fn last_counts(words: &mut Words<'_>) -> Option<EcnCounts>
-    ensures { result ≡ counts_read (words_left words.old) }
+/// Returns whether a word is the name of what follows the ranges.
+fn is_end_name(word: &[u8]) -> bool
+    ensures { result ≡ is_end_name word.now }
 {
-    let counts = EcnCounts {
+    is_name(word, "ecn") || is_name(word, "received")
+}
+
+/// Parses what follows the ranges, after its name.
+fn frame_end(name: &[u8], words: &mut Words<'_>) -> Option<FrameEnd>
+    ensures { result ≡ end_read name.now (words_left words.old) }
+{
+    if is_name(name, "ecn") {
+        let counts = counts(words)?;
+        let received = received_in(words)?;
+        return Some((Some(counts), received));
+    }
+    match last_time(words) {
+        Some(time) => Some((None, Some(time))),
+        None => None,
+    }
+}
+
+/// Parses ECN counts.
+#[tactic(auto, unfolding(recovery_script_syntax::specs::Reading::fields_read))]
+fn counts(words: &mut Words<'_>) -> Option<EcnCounts>
+    ensures { ReadsBy counts_read words.old words.new result }
+{
+    Some(EcnCounts {
         ect0: words.number()?,
         ect1: words.number()?,
         ce: words.number()?,
+    })
+}
+
+/// Parses the time of receipt, if a line goes on.
+fn received_in(words: &mut Words<'_>) -> Option<Option<Instant>>
+    ensures { result ≡ received_read (words_left words.old) }
+{
+    let Some(word) = words.next() else {
+        return Some(None);
     };
-    if words.is_empty() { Some(counts) } else { None }
+    if !is_name(word, "received") {
+        return None;
+    }
+    match last_time(words) {
+        Some(time) => Some(Some(time)),
+        None => None,
+    }
+}
+
+/// Parses a time that ends a line.
+fn last_time(words: &mut Words<'_>) -> Option<Instant>
+    ensures { result ≡ time_read (words_left words.old) }
+{
+    let Some(time) = words.moment() else {
+        return None;
+    };
+    if words.is_empty() { Some(time) } else { None }
 }
 
 /// The lines that are calls.

@@ -8,7 +8,7 @@ usage: recovery-sender client|server|established [SEED [cubic|WINDOW [PACKETS NU
 Answers the calls of a sender one at a time: reads a line, prints its answer and the loss detection timer.
 
   client|server  which endpoint sends; the connection begins with its handshake
-  established    either endpoint, of a connection whose handshake is confirmed
+  established    a server whose handshake is confirmed
   SEED           the seed by which packet numbers are skipped, 0 to 18446744073709551615; - or none: no skips
   WINDOW         cubic, or a constant congestion window, in bytes, above 0; - or none: NewReno
   PACKETS NUMERATOR DENOMINATOR PERIODS

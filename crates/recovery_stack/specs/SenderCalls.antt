@@ -87,6 +87,7 @@ ack_with frame delay = record {
   delay = delay;
   ecn = (if frame.has_ecn then Some (counts frame.ect0 frame.ect1 frame.ce) else None);
   app_limited = frame.app_limited;
+  received = (if frame.has_received then Some frame.received else None);
 }
 
 -- the delay has less than 10^9 nanoseconds

@@ -34,6 +34,9 @@ pub struct AckFrame {
     pub packets_room: u64,
     /// If `is_limited`: how many lost numbers of `recovery_ffi_told_numbers` it has room for.
     pub lost_room: u64,
+    /// If `has_received`: when the frame was received, in nanoseconds. A later time than that of the call counts as
+    /// that.
+    pub received: u64,
     /// The rest of the ACK delay in nanoseconds, below 10^9.
     pub delay_nanos: u32,
     /// Whether the frame has ECN counts.
@@ -43,6 +46,8 @@ pub struct AckFrame {
     /// Whether the frame is processed only if the caller has room for all that it may read of the outcome. If not, the
     /// caller may read the outcome later.
     pub is_limited: bool,
+    /// Whether the frame was received earlier than it is processed (RFC 9002, 5.3).
+    pub has_received: bool,
 }
 
 /// Returns the fields of a frame, if its delay has less than 10^9 nanoseconds.
@@ -56,10 +61,16 @@ fn ack_of(given: &AckFrame) -> Option<Ack>
         ect1: given.ect1,
         ce: given.ce,
     };
+    let received = Instant::from_nanos(given.received);
     Some(Ack {
         delay,
         ecn: if given.has_ecn { Some(counts) } else { None },
         app_limited: given.app_limited,
+        received: if given.has_received {
+            Some(received)
+        } else {
+            None
+        },
     })
 }
 

@@ -59,8 +59,8 @@ impl Pair {
         let ours = match ours.expect("no space is discarded") {
             Transmission::Transmitted => peer::Permit::Transmitted,
             Transmission::Blocked => peer::Permit::Blocked,
-            Transmission::Full => peer::Permit::Full,
-            Transmission::Delayed(until) => peer::Permit::Delayed(until.as_nanos()),
+            Transmission::Full { .. } => peer::Permit::Full,
+            Transmission::Delayed { until, .. } => peer::Permit::Delayed(until.as_nanos()),
         };
         assert_eq!(
             Ok(ours),
@@ -85,8 +85,10 @@ impl Pair {
     fn ack(&mut self, draws: &mut Draws, now: u64, step: u64) {
         let ranges = ranges(draws, self.sent);
         let app_limited = draws.one_of(9);
+        let received = now.saturating_sub(draws.below(30_000_000));
         let ack = Ack {
             app_limited,
+            received: Some(Instant::from_nanos(received)),
             ..Ack::default()
         };
         let ours = self.ours.on_ack_into(
@@ -96,9 +98,16 @@ impl Pair {
             &ranges,
             &mut self.acked,
         );
-        let theirs = self
-            .theirs
-            .on_ack(2, now, 0, app_limited, None, &ranges, &mut self.out);
+        let theirs = self.theirs.on_ack(
+            2,
+            now,
+            received,
+            0,
+            app_limited,
+            None,
+            &ranges,
+            &mut self.out,
+        );
         assert_eq!(
             ours.is_err(),
             theirs.is_err(),

@@ -171,8 +171,8 @@ impl Stack {
                     let items = self.next_items();
                     self.send(&items)?;
                 }
-                Transmission::Delayed(until) => return Ok(Some(until)),
-                Transmission::Full | Transmission::Blocked => return Ok(None),
+                Transmission::Delayed { until, .. } => return Ok(Some(until)),
+                Transmission::Full { .. } | Transmission::Blocked => return Ok(None),
             }
         }
         Ok(None)

@@ -99,6 +99,8 @@ pub const REFUSAL_CONFLICT: u8 = 20;
 /// A number was acknowledged that was never sent (RFC 9000, 13.1): of a sender alone. The errors of senders are
 /// above those of events, so that new errors of events do not meet them.
 pub const REFUSAL_UNSENT: u8 = 128;
+/// The space of 1-RTT packets is never discarded (RFC 9001, 4.9): of a sender alone.
+pub const REFUSAL_DATA_SPACE: u8 = 129;
 /// Only the sender itself makes this event; a caller cannot.
 pub const REFUSAL_DECIDED: u8 = 252;
 /// The handle holds a bare recovery, without a sender.
@@ -362,6 +364,9 @@ pub struct AckFrame {
     pub packets_room: u64,
     /// If `is_limited`: how many lost numbers of `recovery_ffi_told_numbers` it has room for.
     pub lost_room: u64,
+    /// If `has_received`: when the frame was received, in nanoseconds. A later time than that of the call counts as
+    /// that.
+    pub received: u64,
     /// The rest of the ACK delay in nanoseconds, below 10^9.
     pub delay_nanos: u32,
     /// Whether the frame has ECN counts.
@@ -371,6 +376,8 @@ pub struct AckFrame {
     /// Whether the frame is processed only if the caller has room for all that it may read of the outcome. If not, the
     /// caller may read the outcome later.
     pub is_limited: bool,
+    /// Whether the frame was received earlier than it is processed (RFC 9002, 5.3).
+    pub has_received: bool,
 }
 
 /// A range of numbers that an ACK frame acknowledges (RFC 9000, 19.3.1).
@@ -483,7 +490,8 @@ pub struct EncodedReply {
     /// New: whether to start the ACK delay timer. Sent: whether a non-ack-eliciting packet was forgotten for it. Acked,
     /// lost: whether it was the path's MTU probe. Retire: whether any connection IDs are to be retired. Flag: yes or
     /// no. Timeout: whether a timer is running. Black hole: whether one was reported. Sendable: whether an ACK is to be
-    /// sent. Acknowledged: whether the outcome has more than the two counts. Otherwise false.
+    /// sent. Full, delayed by a sender: whether an ACK is required in the space. Acknowledged: whether the outcome has
+    /// more than the two counts. Otherwise false.
     pub flag: bool,
     /// Sendable: whether there is something else to send. Otherwise false.
     pub other: bool,
@@ -503,7 +511,8 @@ pub struct EncodedReply {
 #[repr(C)]
 #[derive(Clone, Copy, Debug, PartialEq, Eq)]
 pub struct SenderView {
-    /// How many bytes more fit into the congestion window (RFC 9002, 7).
+    /// How many bytes more fit into the congestion window (RFC 9002, 7). Ask `recovery_ffi_sender_transmit` for what
+    /// waits even if there is no room.
     pub window_room: u64,
     /// How many more bytes the amplification limit permits, if `is_limited` (RFC 9000, 8.1); else `u64::MAX`.
     pub amplification_room: u64,
@@ -617,7 +626,7 @@ pub struct IdsView {
 
 unsafe extern "C" {
     /// Does nothing. A library of another layout does not have it.
-    #[link_name = "recovery_ffi_layout_1f8f7fce"]
+    #[link_name = "recovery_ffi_layout_a23a1a99"]
     pub fn recovery_ffi_layout();
 
     /// Makes a recovery, whose peer is at this address and has this connection ID of at most 20 bytes. Returns
@@ -993,7 +1002,10 @@ unsafe extern "C" {
     /// the datagram is counted; `ANSWER_BLOCKED` by the amplification limit (RFC 9000, 8.1); `ANSWER_FULL`
     /// if the window has no room (RFC 9002, 7); or `ANSWER_DELAYED` by the pacer, until `first` (RFC 9002, 7.7). If
     /// nothing in it counts in flight, or a probe is due in the space, only the amplification limit is checked. Report
-    /// its packets by `recovery_ffi_send` before the next datagram. Errors: `REFUSAL_SPACE_DISCARDED`, then
+    /// its packets by `recovery_ffi_send` before the next datagram. If the window or the pacer holds it back, `flag` is
+    /// whether an ACK is required in the space. Then send an ACK alone: ask again with `in_flight` false (RFC 9000,
+    /// 13.2.1). Call it for whatever waits to be sent, also if the window is full: until the handshake is confirmed, the
+    /// sender probes for an Initial or Handshake datagram that finds no room. Errors: `REFUSAL_SPACE_DISCARDED`, then
     /// `REFUSAL_OVERFLOW`.
     pub fn recovery_ffi_sender_transmit(
         handle: *mut Handle,
@@ -1041,7 +1053,8 @@ unsafe extern "C" {
     ) -> EncodedReply;
 
     /// Discards a space with its keys and its tracked packets, and resets the count of probe timeouts (RFC 9002, 6.2.2,
-    /// 6.4 and A.11): `ANSWER_DONE`. Error: `REFUSAL_SPACE_DISCARDED`.
+    /// 6.4 and A.11): `ANSWER_DONE`. Errors: `REFUSAL_DATA_SPACE` for the space of 1-RTT packets, which is never
+    /// discarded (RFC 9001, 4.9); `REFUSAL_SPACE_DISCARDED`.
     pub fn recovery_ffi_sender_discard(handle: *mut Handle, space: u8, now: u64) -> EncodedReply;
 
     /// Declares all packets of a space lost, because they will not be acknowledged: after a Retry, or if 0-RTT is

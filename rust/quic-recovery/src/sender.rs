@@ -26,6 +26,8 @@ pub enum SenderError {
     Event(Refusal),
     /// A number was acknowledged that was never sent (RFC 9000, 13.1).
     Unsent,
+    /// The space of 1-RTT packets is never discarded (RFC 9001, 4.9).
+    DataSpace,
     /// Only the sender itself makes this event; a caller cannot.
     Decided,
 }
@@ -41,6 +43,7 @@ impl fmt::Display for SenderError {
         match self {
             SenderError::Event(refusal) => refusal.fmt(f),
             SenderError::Unsent => f.write_str("a number was acknowledged that was never sent"),
+            SenderError::DataSpace => f.write_str("the space of 1-RTT packets is never discarded"),
             SenderError::Decided => f.write_str("the sender decides the event itself"),
         }
     }
@@ -61,7 +64,8 @@ impl Error for SenderError {}
 /// }
 /// // ten datagrams take this long at 5/4 of the window in each RTT of 333 ms (RFC 9002, 7.7)
 /// let until = at(0) + std::time::Duration::from_micros(26_640);
-/// assert_eq!(sender.transmit(at(0), 1200, space, true)?, Transmission::Delayed(until));
+/// let delayed = Transmission::Delayed { until, ack: false };
+/// assert_eq!(sender.transmit(at(0), 1200, space, true)?, delayed);
 /// assert_eq!(sender.transmit(until, 1200, space, true)?, Transmission::Transmitted);
 /// # Ok::<(), Box<dyn std::error::Error>>(())
 /// ```
@@ -72,9 +76,17 @@ pub enum Transmission {
     /// The amplification limit forbids it (RFC 9000, 8.1).
     Blocked,
     /// The window has no room for it (RFC 9002, 7).
-    Full,
-    /// The pacer delays it: ask again at this time (RFC 9002, 7.7).
-    Delayed(Instant),
+    Full {
+        /// Whether an ACK is required in the space: send it alone ([`Sender::ack_required`]).
+        ack: bool,
+    },
+    /// The pacer delays it (RFC 9002, 7.7).
+    Delayed {
+        /// When to ask again.
+        until: Instant,
+        /// Whether an ACK is required in the space: send it alone ([`Sender::ack_required`]).
+        ack: bool,
+    },
 }
 
 /// A sent packet.
@@ -105,7 +117,7 @@ pub struct MtuProbe {
 /// # let mut sender = Sender::established(Side::Client, &RecoveryConfig::default(), at(0))?;
 /// sender.send(space, at(1), 1200, true, None, &[])?;
 /// let counts = EcnCounts { ect0: 0, ect1: 0, ce: 1 };
-/// let ack = Ack { delay: Duration::from_millis(10), ecn: Some(counts), app_limited: false };
+/// let ack = Ack { delay: Duration::from_millis(10), ecn: Some(counts), ..Ack::default() };
 /// let acked = sender.on_ack(space, at(101), &ack, &[(0, 0)])?;
 /// // the packet was marked on the way (RFC 9002, 7.1)
 /// assert_eq!(acked.ecn, EcnOutcome::Marked);
@@ -121,16 +133,20 @@ pub struct Ack {
     pub ecn: Option<EcnCounts>,
     /// Whether the sender had too little to send to fill its window (RFC 9002, 7.8).
     pub app_limited: bool,
+    /// When the frame was received, if that was before it is processed: its keys came later, or frames are processed
+    /// in batches (RFC 9002, 5.3). The RTT sample and the age of packets end then. `None` and a later time count as
+    /// the time of the call.
+    pub received: Option<Instant>,
 }
 
 /// The outcome of a frame's ECN counts (RFC 9000, 13.4.2.1).
 #[derive(Clone, Copy, Debug, Default, PartialEq, Eq)]
 pub enum EcnOutcome {
-    /// No congestion. If the frame newly acknowledges packets and has no ECN counts, packets are no longer marked on
-    /// the path.
+    /// No congestion. If the frame raises the largest acknowledged number and has no ECN counts, packets are no longer
+    /// marked on the path.
     #[default]
     Quiet,
-    /// More packets were marked with CE: congestion (RFC 9002, 7.1).
+    /// More packets were marked with CE on the path in use: congestion (RFC 9002, 7.1).
     Marked,
     /// Validation failed: packets are no longer marked on the path.
     Failed,
@@ -300,15 +316,15 @@ pub enum TimerState {
         /// When the timer expires.
         at: Instant,
     },
-    /// The probe timeout of a space.
+    /// The probe timeout of a space. Until the handshake is confirmed, it also runs while a datagram of the space waits
+    /// for room in the window.
     Probes {
         /// The space.
         space: SpaceId,
         /// When the timer expires.
         at: Instant,
     },
-    /// The probe timeout that ends a deadlock of the handshake (RFC 9002, 6.2.2.1). It also runs while 1-RTT packets
-    /// are in flight and the handshake is not confirmed: they may fill the window that the handshake needs.
+    /// The probe timeout that ends a deadlock of the handshake (RFC 9002, 6.2.2.1).
     DeadlockProbe {
         /// The space of the probe.
         space: SpaceId,
@@ -319,8 +335,7 @@ pub enum TimerState {
     /// 14.1).
     Blocked,
     /// The confirmation of the handshake: only 1-RTT packets are in flight, which are not probed for before (RFC 9002,
-    /// 6.2.1), and the space of a deadlock probe is discarded. If the handshake is confirmed,
-    /// [`Sender::on_handshake_confirmed`] was not called.
+    /// 6.2.1). If the handshake is confirmed, [`Sender::on_handshake_confirmed`] was not called.
     Unconfirmed,
     /// Nothing: no ack-eliciting packet is in flight that is probed for.
     Idle,
@@ -370,10 +385,12 @@ fn frame(ack: &Ack, told: &Acknowledged) -> ffi::AckFrame {
         ce: counts.ce,
         packets_room,
         lost_room,
+        received: ack.received.map_or(0, Instant::as_nanos),
         delay_nanos: ack.delay.subsec_nanos(),
         has_ecn: ack.ecn.is_some(),
         app_limited: ack.app_limited,
         is_limited: true,
+        has_received: ack.received.is_some(),
     }
 }
 
@@ -404,6 +421,7 @@ fn space_of(number: u64) -> SpaceId {
 fn error(reply: &ffi::EncodedReply) -> SenderError {
     match (reply.kind, reply.refusal) {
         (ffi::ANSWER_REFUSED, ffi::REFUSAL_UNSENT) => SenderError::Unsent,
+        (ffi::ANSWER_REFUSED, ffi::REFUSAL_DATA_SPACE) => SenderError::DataSpace,
         (ffi::ANSWER_REFUSED, ffi::REFUSAL_DECIDED) => SenderError::Decided,
         (ffi::ANSWER_REFUSED, number) => {
             SenderError::Event(Refusal::from_number(number, reply.first))
@@ -423,7 +441,7 @@ fn expect(kind: u8, reply: &ffi::EncodedReply) -> Result<(), SenderError> {
 }
 
 impl Sender {
-    /// Returns a sender without any event, made at time `now`. The first path of a client is validated, whatever the
+    /// Returns a sender without any event, made at time `now`. The paths of a client are validated, whatever the
     /// settings say (RFC 9000, 8.1). Let the clock start above 0: a packet that is sent at 0 counts as sent before the
     /// start of the recovery period, so that its ACK or loss does not change the window (RFC 9002, B.3 and B.5). Fails
     /// if the configuration is invalid, or allocation fails.
@@ -436,7 +454,7 @@ impl Sender {
     /// // an unvalidated client gets at most three times the bytes received from it (RFC 9000, 8.1)
     /// let datagram = server.transmit(at(0), 1200, SpaceId::Initial, true)?;
     /// assert_eq!(datagram, Transmission::Blocked);
-    /// // the first path of a client has no such limit; a later one has, until its address is validated
+    /// // the paths of a client have no such limit
     /// let mut client = Sender::new(Side::Client, &config, at(0))?;
     /// let datagram = client.transmit(at(0), 1200, SpaceId::Initial, true)?;
     /// assert_eq!(datagram, Transmission::Transmitted);
@@ -547,7 +565,8 @@ impl Sender {
     }
 
     /// Returns how many bytes more fit into the congestion window of the path in use (RFC 9002, 7). A datagram that
-    /// counts in flight and is larger is [`Transmission::Full`].
+    /// counts in flight and is larger is [`Transmission::Full`]. Ask [`Sender::transmit`] for what waits even if there
+    /// is no room: until the handshake is confirmed, the sender probes only for what it was asked for.
     ///
     /// ```
     /// # use quic_recovery::*;
@@ -607,6 +626,36 @@ impl Sender {
         view.is_limited.then_some(view.amplification_room)
     }
 
+    /// Returns whether an ACK must be sent in a space at once (RFC 9000, 13.2.1). The window and the pacer hold back no
+    /// ACK (RFC 9002, 7 and 7.7): ask [`Sender::transmit`] with `in_flight` false, send the ACK alone with size 0, and
+    /// report [`Event::AcksSent`].
+    ///
+    /// ```
+    /// # use quic_recovery::*;
+    /// # let at = |millis: u64| Instant::from_nanos(1 + millis * 1_000_000);
+    /// # let (mut config, space) = (RecoveryConfig::default(), SpaceId::Data);
+    /// config.transport.congestion = Congestion::Fixed(1200);
+    /// let mut sender = Sender::established(Side::Client, &config, at(0))?;
+    /// sender.send(space, at(0), 1200, true, None, &[7])?;
+    /// // the ACK of one packet may wait, that of two may not (RFC 9000, 13.2.1 and 13.2.2)
+    /// for (number, required) in [(0, false), (1, true)] {
+    ///     sender.on_event(Event::Received { space, now: at(1), number, ack_eliciting: true })?;
+    ///     assert_eq!(sender.ack_required(space), required);
+    /// }
+    /// // the window is full, and the ACK goes alone
+    /// assert_eq!(sender.transmit(at(1), 1200, space, true)?, Transmission::Full { ack: true });
+    /// assert_eq!(sender.transmit(at(1), 50, space, false)?, Transmission::Transmitted);
+    /// sender.send(space, at(1), 0, false, Some(1), &[])?;
+    /// sender.on_event(Event::AcksSent { space })?;
+    /// assert!(!sender.ack_required(space));
+    /// # Ok::<(), Box<dyn std::error::Error>>(())
+    /// ```
+    pub fn ack_required(&self, space: SpaceId) -> bool {
+        self.recovery
+            .space(space)
+            .is_some_and(|it| it.can_send.acks)
+    }
+
     /// Returns the smallest packet number that a space tracks, if any: all smaller ones are acknowledged, lost,
     /// forgotten or discarded. A stack chooses the length of packet numbers by it (RFC 9000, 17.1).
     ///
@@ -661,6 +710,11 @@ impl Sender {
     /// space, or if nothing in the datagram counts in flight (RFC 9002, 7, 7.5 and 7.7). Then `in_flight` is false: the
     /// datagram holds only ACKs, a close, or the MTU probe.
     ///
+    /// After each call ask for whatever waits to be sent, also if [`Sender::window_room`] has no room. Packets of
+    /// 1-RTT data may fill the window before the peer can read them. So until the handshake is confirmed, an Initial
+    /// or Handshake datagram that finds no room starts a probe timeout of its space (RFC 9002, 6.2). If the answer says
+    /// that an ACK is required, send it alone ([`Sender::ack_required`]).
+    ///
     /// ```
     /// # use quic_recovery::*;
     /// # let at = |millis: u64| Instant::from_nanos(1 + millis * 1_000_000);
@@ -671,7 +725,7 @@ impl Sender {
     ///     sender.send(space, at(0), 1200, true, None, &[item])?;
     /// }
     /// // the initial window is ten datagrams (RFC 9002, 7.2)
-    /// assert_eq!(sender.transmit(at(0), 1200, space, true)?, Transmission::Full);
+    /// assert_eq!(sender.transmit(at(0), 1200, space, true)?, Transmission::Full { ack: false });
     /// // a datagram with only ACKs does not count in flight (RFC 9002, 7)
     /// assert_eq!(sender.transmit(at(0), 50, space, false)?, Transmission::Transmitted);
     /// # Ok::<(), Box<dyn std::error::Error>>(())
@@ -696,8 +750,11 @@ impl Sender {
         Ok(match reply.kind {
             ffi::ANSWER_TRANSMITTED => Transmission::Transmitted,
             ffi::ANSWER_BLOCKED => Transmission::Blocked,
-            ffi::ANSWER_FULL => Transmission::Full,
-            ffi::ANSWER_DELAYED => Transmission::Delayed(Instant::from_nanos(reply.first)),
+            ffi::ANSWER_FULL => Transmission::Full { ack: reply.flag },
+            ffi::ANSWER_DELAYED => Transmission::Delayed {
+                until: Instant::from_nanos(reply.first),
+                ack: reply.flag,
+            },
             _ => return Err(error(&reply)),
         })
     }

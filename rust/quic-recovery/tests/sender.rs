@@ -61,8 +61,9 @@ fn acked(found: &Acknowledged) -> String {
 
 /// Returns the ACK frame of a line: its ranges, and its other fields.
 fn frame(line: &Line) -> (Vec<(u64, u64)>, Ack) {
-    let end = line.words.iter().position(|it| it == "ecn");
-    let last = end.unwrap_or(line.words.len());
+    let place = |name| line.words.iter().position(|it| it == name);
+    let (end, received) = (place("ecn"), place("received"));
+    let last = end.or(received).unwrap_or(line.words.len());
     let ranges = (5..last).step_by(2);
     let ranges = ranges.map(|it| (line.number(it), line.number(it + 1)));
     let ecn = end.map(|it| EcnCounts {
@@ -74,16 +75,28 @@ fn frame(line: &Line) -> (Vec<(u64, u64)>, Ack) {
         delay: line.span(3),
         ecn,
         app_limited: line.flag(4),
+        received: received.map(|it| line.moment(it + 1)),
     };
     (ranges.collect(), ack)
+}
+
+/// Returns the word after a datagram that is held back, if an ACK is required.
+fn required(ack: bool) -> &'static str {
+    if ack {
+        " ack"
+    } else {
+        ""
+    }
 }
 
 fn transmitted(sent: Transmission) -> String {
     match sent {
         Transmission::Transmitted => "transmitted".into(),
         Transmission::Blocked => "blocked".into(),
-        Transmission::Full => "full".into(),
-        Transmission::Delayed(until) => format!("delayed {}", until.as_nanos()),
+        Transmission::Full { ack } => format!("full{}", required(ack)),
+        Transmission::Delayed { until, ack } => {
+            format!("delayed {}{}", until.as_nanos(), required(ack))
+        }
     }
 }
 
@@ -166,6 +179,7 @@ fn answer(sender: &mut Sender, line: &str) -> String {
         Ok(text) => format!("{text} timer {timer}"),
         Err(SenderError::Event(refusal)) => written(&Err(refusal)),
         Err(SenderError::Unsent) => "refused 128 Unsent".into(),
+        Err(SenderError::DataSpace) => "refused 129 DataSpace".into(),
         Err(other) => panic!("{line}: {other}"),
     }
 }
@@ -185,10 +199,18 @@ fn sender_of(words: &[&str]) -> Sender {
     }
     let made = match words[0] {
         "client" => Sender::new(Side::Client, &config, at(0)),
-        "established" => Sender::established(Side::Client, &config, at(0)),
+        "established" => Sender::established(Side::Server, &config, at(0)),
         _ => Sender::new(Side::Server, &config, at(0)),
     };
     made.unwrap()
+}
+
+/// Returns how many lines a row stands for, and the row of one: `4 times: LINE => ANSWER` is four lines, in whose answers
+/// {} is the number.
+fn lines_of(row: &str) -> (u64, &str) {
+    let many = row.split_once(" times: ");
+    let many = many.and_then(|(count, row)| Some((count.parse().ok()?, row)));
+    many.unwrap_or((1, row))
 }
 
 /// The worked rows of the repository, whose answers come from an independent model: each line with its answer.
@@ -196,12 +218,15 @@ fn sender_of(words: &[&str]) -> Sender {
 fn rows() {
     let text = fs::read_to_string(root().join("tests/sender/rows.txt")).unwrap();
     let (mut sender, mut seen) = (sender_of(&["server"]), 0);
-    for row in text.lines() {
+    for (count, row) in text.lines().map(lines_of) {
         if let Some(words) = row.strip_prefix("recovery-sender ") {
             sender = sender_of(&words.split(' ').collect::<Vec<_>>());
         } else if let Some((line, wanted)) = row.split_once(" => ") {
-            assert_eq!(answer(&mut sender, line), wanted, "{row}");
-            seen += 1;
+            for number in 0..count {
+                let wanted = wanted.replace("{}", &number.to_string());
+                assert_eq!(answer(&mut sender, line), wanted, "{row}");
+            }
+            seen += count;
         }
     }
     assert!(seen > 400, "{seen} rows");

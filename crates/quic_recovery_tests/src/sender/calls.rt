@@ -68,12 +68,14 @@ enum Said {
     Other,
     SenderError(u64),
     Unsent,
+    DataSpace,
 }
 
 fn refused(refused: &SenderError) -> Said {
     match refused {
         SenderError::Event(refusal) => Said::SenderError(u64::from(refusal.number())),
         SenderError::Unsent => Said::Unsent,
+        SenderError::DataSpace => Said::DataSpace,
     }
 }
 
@@ -81,8 +83,8 @@ fn transmission(reply: &Result<Transmission, SenderError>) -> Said {
     match reply {
         Ok(Transmission::Transmitted) => Said::Transmitted,
         Ok(Transmission::Blocked) => Said::Blocked,
-        Ok(Transmission::Full) => Said::Full,
-        Ok(Transmission::Delayed(_)) => Said::Delayed,
+        Ok(Transmission::Full { .. }) => Said::Full,
+        Ok(Transmission::Delayed { .. }) => Said::Delayed,
         Err(given) => refused(given),
     }
 }
@@ -146,6 +148,7 @@ fn on_ack(sender: &mut Reno, now: u64, number: u64) -> Said {
         delay: Duration::ZERO,
         ecn: None,
         app_limited: false,
+        received: None,
     };
     let reply = sender.on_ack(SpaceId::Data, at(now), &[(number, number)], ack);
     acked(&reply)

@@ -28,6 +28,7 @@ fn on_ack(sender: &mut Reno, first: u64, last: u64) -> Result<Acknowledged, Send
         delay: Duration::ZERO,
         ecn: None,
         app_limited: false,
+        received: None,
     };
     sender.on_ack(SpaceId::Data, at(100_000_000), &[(first, last)], ack)
 }

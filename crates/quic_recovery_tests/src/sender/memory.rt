@@ -131,6 +131,7 @@ fn on_ack(sender: &mut Failing, millis: u64, number: u64) -> Said {
         delay: Duration::ZERO,
         ecn: None,
         app_limited: false,
+        received: None,
     };
     let now = at(millis.saturating_mul(MILLIS));
     let reply = sender.on_ack(SpaceId::Data, now, &[(number, number)], ack);

@@ -36,6 +36,7 @@ fn ack(alloc: Global, now: u64) -> Call<Tally> {
             delay: Duration::ZERO,
             ecn: None,
             app_limited: false,
+            received: None,
         },
     })
 }

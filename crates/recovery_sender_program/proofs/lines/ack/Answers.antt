@@ -14,7 +14,7 @@ returns-in_default-2 c =
 pub returns-then-is_empty : goal.returns-then-is_empty
 returns-then-is_empty c =
     empty_ranges _ c.in-Some.space c.in-Some.now c.in-Some.delay c.in-Some.app_limited _ c.in-Some.ensures
-    c.in-Some-2.ecn c.read_ranges.new.ranges.items (rw (c.in-Some-2.is) at c.in_ok-ecn.ensures)
+    _ c.read_ranges.new.ranges.items (rw (c.in-Some-2.is) at c.in_ok-ecn.ensures)
     (grind (arith, nat_tests, c.if-is_empty.true, c.is_empty.ensures, c.read_ranges.new.ranges.ok.0))
 
 pub returns : goal.returns
