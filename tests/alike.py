@@ -205,10 +205,10 @@ def fault(program, other, script, seed, error):
     return "seed {}, line {} ({}): {}, and {} by plain Rust".format(seed, *parted)
 
 
-def main(about, program, source, script, error=str):
+def main(about, program, source, script, error=str, count=300):
     """Plays the scripts of these seeds on a program and on a source of tests/careful."""
     options = argparse.ArgumentParser(description=about, formatter_class=argparse.RawDescriptionHelpFormatter)
-    options.add_argument("count", nargs="?", type=int, default=300)
+    options.add_argument("count", nargs="?", type=int, default=count)
     options.add_argument("--seed", type=int, default=0)
     options.add_argument("--show", type=int, metavar="SEED", help="prints the script of a seed, and on standard error the arguments; plays none")
     chosen = options.parse_args()

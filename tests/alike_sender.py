@@ -15,6 +15,7 @@ from alike import LAST, MILLISECOND, SECOND, SIZES, SPACES, Lines
 OTHERS = 12  # the weight of all other events together
 # names of lines that cannot be read, or that have calls of their own here
 APART = {"send", "acked", "lost", "losses-done", "sample", "end-acks", "congestion", "ecn", "queue-probe", "transmit", "discard", "poll-mtu"}
+SMALL_WINDOWS = [1200, 2400, 3000, 3600]
 STEPS = [
     [0, 1000, 100_000, MILLISECOND],
     [0, MILLISECOND, 10 * MILLISECOND],
@@ -34,17 +35,21 @@ class Calls(Lines):
         self.spaces = self.one_of(["data"], ["data"] * 6 + SPACES, SPACES)
         self.loss = self.one_of(0, 0.02, 0.1, 0.4, 0.8)
         self.carried = self.one_of(LAST, LAST, 1250)
-        self.arrived = {space: [] for space in SPACES}
+        self.arrived, self.top = {space: [] for space in SPACES}, dict.fromkeys(SPACES, -1)
         self.burst = False
-        self.counts = self.one_of(None, None, [0, 0, 0])
+        self.counts = self.one_of(None, [0, 0, 0])
         self.likely = [weight * self.one_of(0.3, 1, 1, 1, 2) for _, weight in CALLS]
-        self.is_silent = self.is_rare(30)
+        self.is_silent, self.is_full = self.is_rare(30), self.is_rare(5)
         if self.is_silent:  # hardly a packet elicits ACKs, and few come, so that some packets are forgotten
             self.spaces, self.likely[:2] = [self.one_of(*SPACES)], [400, 0.3]
+        elif self.is_full:  # Data fills the window of a handshake, and Initial and Handshake wait
+            self.spaces, self.likely = SPACES, [weight * self.one_of(1, 1, 2) for weight in WHEN_FULL]
 
     def arguments(self):
-        seed = self.one_of("-", self.below(100), self.below(2**64)) if self.is_rare(4) else "-"
+        seed = self.one_of("-", "-", self.below(100), self.below(2**64))
         window = self.one_of(1, 1200, 3000, 24000, 10**6, LAST) if self.is_rare(4) else "-"
+        if self.is_full:
+            self.side, window = self.one_of("client", "server"), self.one_of(*SMALL_WINDOWS)
         words = [self.side, seed, window, *(self.settings() if self.is_rare(4) else [])]
         while words[-1] == "-":
             words.pop()
@@ -58,7 +63,7 @@ class Calls(Lines):
     def first(self):
         """What is mostly said at the beginning."""
         yield from ["validated"] if self.side == "server" and not self.is_rare(5) else []
-        yield from ["confirmed"] if not self.is_rare(3) else []
+        yield from ["confirmed"] if not self.is_rare(3) and not self.is_full else []
 
     def moment(self):
         """A time, mostly later than the last."""
@@ -110,19 +115,46 @@ class Calls(Lines):
         top = self.sent[space] + self.below(4)
         return self.one_of([[last, first]], ranges[::-1], ranges + [[first, last]], [[first, top]], [[top, top], *ranges], [[0, max(0, top - 1)]])
 
-    def ecn(self):
-        if self.counts is None or self.is_rare(20):
+    def ecn(self, space, ranges):
+        """Counts that mostly cover what the ranges have, now and then with a CE mark. A frame that does not raise the largest number may lack them."""
+        rises, self.top[space] = ranges[0][1] > self.top[space], max(self.top[space], ranges[0][1])
+        if self.counts is None or self.is_rare(80 if rises else 3):
             return ""
-        self.counts[self.one_of(0, 0, 0, 0, 2, self.below(3))] += self.one_of(0, 1, 1, 1, 2, 3, 10)
-        return " ecn {} {} {}".format(*(self.counts if not self.is_rare(30) else [self.below(9), 0, 0]))
+        enough = sum(last - first + 1 for first, last in ranges)
+        self.counts[0] += enough if not self.is_rare(20) else self.one_of(0, 1)
+        self.counts[2 if not self.is_rare(60) else 1] += self.one_of(0, 0, 1)
+        return " ecn {} {} {}".format(*(self.counts if not self.is_rare(100) else [self.below(9), 0, 0]))
+
+    def receipt(self, now):
+        """When a frame was received, mostly a little before it is processed."""
+        if not self.is_rare(4):
+            return ""
+        waited = self.one_of(0, 1000, MILLISECOND, 20 * MILLISECOND, 100 * MILLISECOND, SECOND, -MILLISECOND)
+        return f" received {min(LAST, max(0, now - waited))}"
 
     def ack(self):
         space = self.space()
         if not self.arrived[space] and not self.is_rare(9):
             return self.send()
-        ranges = "".join(f" {first} {last}" for first, last in self.spoiled(self.acknowledged(space), space))
-        delay = self.one_of(0, 0, MILLISECOND, 25 * MILLISECOND, SECOND, 2**64 * SECOND - 1)
-        return f"ack {space} {self.moment()} {delay} {self.flag()}{ranges}{self.ecn()}"
+        ranges = self.acknowledged(space)
+        said = "".join(f" {first} {last}" for first, last in self.spoiled(ranges, space))
+        delay, now = self.one_of(0, 0, MILLISECOND, 25 * MILLISECOND, SECOND, 2**64 * SECOND - 1), self.moment()
+        return f"ack {space} {now} {delay} {self.flag()}{said}{self.ecn(space, ranges)}{self.receipt(now)}"
+
+    def transmit(self):
+        size = self.one_of(1200, 1200, 1, 3000, 65535, self.below(20000))
+        return f"transmit {self.space()} {self.moment()} {size} {int(not self.is_rare(5))}"
+
+    def hear(self):
+        """A packet of the peer, or what its ACK waits for."""
+        space = self.space()
+        self.received[space] += self.one_of(1, 1, 1, 1, 2, 3)
+        packet = f"received {space} {self.moment()} {self.received[space]} {int(not self.is_rare(4))}"
+        return self.one_of(packet, packet, packet, packet, f"ack-delay-timeout {space}", f"acks-sent {space}")
+
+    def move(self):
+        new = f"new-path {self.moment()} {self.below(4)} {self.flag()}"
+        return self.one_of(new, new, new, "validated", "validated previous", "revert-path", "revert-path", "drop-previous", f"reset-path {self.moment()}")
 
     def timeout(self):
         """Now, or when much may be due."""
@@ -153,11 +185,12 @@ class Calls(Lines):
 CALLS = [
     (Calls.send, 36), (Calls.ack, 26), (Calls.timeout, 10), (Calls.said, 2), (Calls.discard, 0.1), (Calls.other, OTHERS),
     (lambda it: f"poll-mtu {it.moment()}", 2),
-    (lambda it: f"transmit {it.space()} {it.moment()} {it.one_of(1200, 1200, 1, 3000, 65535, it.below(20000))} {int(not it.is_rare(5))}", 6),
+    (Calls.transmit, 6), (Calls.hear, 3), (Calls.move, 1),
     (lambda it: f"probe {it.space()}", 3),
     (lambda it: f"datagram {it.one_of(1, 100, 400, 1200, it.near(7, 5))}", 2),
     (lambda it: f"abandon {it.space()} {it.moment()}", 0.7),
 ]
+WHEN_FULL = [8, 5, 8, 0.1, 0.05, 1, 0.1, 20, 6, 0.3, 2, 1, 0.2]  # of these calls, as weights
 
 
 def script(seed):

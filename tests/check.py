@@ -86,6 +86,8 @@ SCRIPTS = [
     Part("the pictures", ["tests/pictures.py"], reports("pictures")),
     Part("a simulated link", ["tests/link.py"], reports("link"), minutes=0.5),
     Part("two endpoints", ["tests/pair.py"], reports("pair"), minutes=0.5),
+    Part("their steps in plain Rust", ["tests/alike_pair.py"], reports("alike"), needs="rustc", minutes=0.2),
+    Part("handshakes after a hostile network", ["tests/progress.py"], reports("progress"), minutes=0.2),
     Part("qlog, out and in", ["tests/qlog.py"], reports("qlog"), minutes=0.5),
     Part("the experiments", ["tests/experiments.py"], reports("experiments")),
     Part("the library from Rust and C", ["tests/rust.py"], reports("rust"), needs="rt", minutes=4),

@@ -25,9 +25,9 @@ import rfc
 ROOT = pathlib.Path(__file__).resolve().parent.parent
 NAME = re.compile(r"[A-Za-z_][A-Za-z0-9_-]*")
 INPUT = re.compile(r"(tracked|local_ids)_\d+_")  # of bench/, which makes these names
-README_LINES = 111
+README_LINES = 112
 COLUMNS = 120  # of a line that is no row of a table
-MOST_BYTES = 228_200  # of all documents together that are written by hand
+MOST_BYTES = 231_200  # of all documents together that are written by hand
 WRITTEN = {pathlib.Path("docs/RFC.md")}  # by a script, from the table docs/rfc.tsv
 FENCED = re.compile(r"^```(rust|c|text)\n(.*?)^```$", re.M | re.S)
 EXAMPLES = {"rust": ["rust/*/examples/*.rs"], "c": ["rust/c/*.c"], "text": ["rust/*/examples/*.out", "rust/c/*.out"]}

@@ -92,8 +92,8 @@ def names_missing():
         for place, form in lists.items():
             text = (ROOT / place).read_text()
             yield from (f"{it['name']} is not in {place}: add it to the list there" for it in found if not re.search(form.format(**it), text))
-    own = re.findall(r"^pub const REFUSAL_(UNSENT): u8 = (\d+);", (ROOT / "crates" / "recovery_engine" / "src" / "numbers.rt").read_text(), re.M)
-    right = {(str(it["number"]), it["name"]) for it in refusals} | {(number, name.capitalize()) for name, number in own}  # the last is the sender's own
+    own = re.findall(r"^pub const REFUSAL_(UNSENT|DATA_SPACE): u8 = (\d+);", (ROOT / "crates" / "recovery_engine" / "src" / "numbers.rt").read_text(), re.M)
+    right = {(str(it["number"]), it["name"]) for it in refusals} | {(number, name.title().replace("_", "")) for name, number in own}  # the last are the sender's own
     for path in sorted(it for place in REFUSED for it in ROOT.glob(place)):
         wrong = set(re.findall(r"\brefused (\d+) ([A-Z]\w+)", path.read_text())) - right
         yield from (f"{path.relative_to(ROOT)} has a refusal {number} {name}, which is none" for number, name in sorted(wrong))

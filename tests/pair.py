@@ -2,8 +2,8 @@
 """Tests two endpoints over a hostile network. recovery-link plays random schedules, which drop, duplicate, reorder and delay packets, and all short
 ones. Each answer is compared with what the steps and answers before it allow: crates/recovery_pair/specs/Promises has these rules, and this file has
 some that are not proved. Honest endpoints reject no ACK of each other. What is acknowledged was delivered once, with the items that were sent. No
-item is lost, and none is sent more often than its losses and probes account for. The amplification limit and the window hold, and no endpoint is
-stuck. At the end the network delivers, and all items arrive.
+item is lost, and none is sent more often than its losses and probes account for. The amplification limit and the window hold. No required ACK is held
+back, and no endpoint is stuck. At the end the network delivers, and all items arrive.
 
     tests/pair.py                     with seeds 0 to 59
     tests/pair.py --seeds 1000 1099   with others
@@ -76,12 +76,14 @@ class World:
         self.handed, self.delivered = collections.defaultdict(list), collections.defaultdict(list)
         self.came, self.went, self.validated = collections.Counter(), collections.Counter(), set()
         self.due, self.windows, self.heard_at = collections.Counter(), collections.Counter(), {}
+        self.owed, self.is_late = collections.defaultdict(set), set()  # ack-eliciting numbers since the last ACK; whose ACK delay timer expired
         self.asked = None  # the endpoint and space that the last step asked for probes
 
     def take(self, step, answer):
         words, said = step.split(), answer.split()
         asked, self.asked = self.asked, None
-        taken = {"hand": self.hand, "send": self.send, "arrive": self.arrive, "expire": self.expire, "discard": self.discard}
+        taken = {"hand": self.hand, "send": self.send, "arrive": self.arrive, "expire": self.expire, "late": self.late,
+                 "discard": self.discard}
         if said[0] in ("refused", "failed"):
             holds("a step fails only for a discarded space", said[2:] == ["SpaceDiscarded"] and tuple(words[1:3]) in self.discarded)
             return
@@ -106,6 +108,8 @@ class World:
 
     def send(self, words, said):
         end, space, now, size = words[0], words[1], int(words[2]), int(words[3])
+        if said[0] in ("nothing", "full", "delayed"):
+            holds("a required ACK is sent", not self.is_ack_required(end, space))
         if said[0] == "nothing":
             return self.all_kept(end, space)
         if "full" in said:
@@ -120,6 +124,8 @@ class World:
         self.delayed(packet, now, said)
         if packet.elicits:
             self.due[end, space] = max(0, self.due[end, space] - 1)
+        self.owed[end, space] = set()
+        self.is_late -= {end} if space == "data" else set()
         self.packets[key] = packet
         self.wire.append(packet)
         self.went[end] += packet.size
@@ -150,6 +156,14 @@ class World:
             holds("the ACK delay", int(said[-1]) == max(0, now - self.heard_at[end, space][1]))
         received = self.heard_at.get((end, space), [None])[0]
         holds("each packet has an ACK up to the largest number received", packet.largest == received)
+
+    def late(self, words, said):
+        if said == ["done"]:
+            self.is_late.add(words[0])
+
+    def is_ack_required(self, end, space):
+        """At once in Initial and Handshake, of 1-RTT packets for two or after max_ack_delay (RFC 9000, 13.2.1)."""
+        return len(self.owed[end, space]) > (space == "data" and end not in self.is_late)
 
     def of(self, end, space):
         return [it for it in self.packets.values() if it.key[:2] == (end, space)]
@@ -187,6 +201,7 @@ class World:
             holds("a duplicate", key in self.heard or int(number) + 129 <= max(it[2] for it in self.heard if it[:2] == key[:2]))
         else:
             holds("new once", key not in self.heard)
+            self.owed[key[:2]] |= {key[2]} if packet.elicits else set()
             self.new(key, packet, int(words[1]), rest)
 
     def new(self, key, packet, now, rest):
@@ -213,6 +228,8 @@ class World:
             holds("what is acknowledged is outstanding", packet and packet.outcome is None)
             holds("what is acknowledged was delivered", self.heard.get((other, space, number)) == packet.items)
             packet.outcome = "acked"
+            if packet.largest is not None:  # these are reported no more (RFC 9000, 13.2.4)
+                self.owed[end, space] = {it for it in self.owed[end, space] if it > packet.largest}
         self.lost(end, space, ack[named + 1:])
 
     def lost(self, end, space, words):

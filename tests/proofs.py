@@ -14,7 +14,7 @@ IMPORT = re.compile(r"(ghost )?(pub )?use ")
 COUNTED = re.compile(r"[\w)]((?:\.[01]){4,})(?!\w)")
 COLUMNS = 120
 MOST_COUNTED = 0  # terms that count four fields or more
-MOST_TIMES = 1.7  # proofs to code and definitions: what is promised of two endpoints needs most; a program without proofs does not count
+MOST_TIMES = 1.72  # proofs to code and definitions: what is promised of two endpoints needs most; a program without proofs does not count
 
 
 def sources(room, kind, everywhere=False):

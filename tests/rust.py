@@ -143,7 +143,9 @@ REPLIES = {
                 ("nanos", "first", "When the earliest timer expires, in nanoseconds.")],
     "IN_FLIGHT": [("bytes", "first", "The bytes in flight."),
                   ("ack_eliciting", "second", "How many packets in flight are ack-eliciting.")],
-    "DELAYED": [("until", "first", "Until when the pacer delays the datagram, in nanoseconds.")],
+    "DELAYED": [("until", "first", "Until when the pacer delays the datagram, in nanoseconds."),
+                ("ack", "flag", "Whether an ACK is required in the space, for a sender.")],
+    "FULL": [("ack", "flag", "Whether an ACK is required in the space.")],
     "PROBE": [("number", "first", "The number of the probe's packet."),
               ("size", "size", "The size of the probe's datagram, in bytes.")],
     "BLACK_HOLE": [("found", "flag", "Whether a black hole is reported.")],
@@ -159,7 +161,7 @@ REPLIES = {
                    ("lost", "second", "How many lost numbers the caller needs room for.")],
     "REFUSED": [("fault", "first", "The fault, if the error is `RECOVERY_REFUSAL_ECN`.")],
 }
-BARE = set("DUPLICATE TRANSMITTED BLOCKED READY NO_PROBE QUEUE DONE FULL NOTHING".split())  # answers that hold no more
+BARE = set("DUPLICATE TRANSMITTED BLOCKED READY NO_PROBE QUEUE DONE NOTHING".split())  # answers that hold no more
 IN_C = {"flag": "bool", "other": "bool", "size": "uint16_t", "first": "uint64_t", "second": "uint64_t"}
 
 # what each group of numbers says

@@ -1,6 +1,7 @@
 //! The program over a script, in plain Rust that is written for speed: a line is applied and answered as it is read, and no event
 //! and no reply is kept. It takes no arguments.
 mod bytes;
+#[allow(dead_code)]
 mod layer;
 mod lines;
 

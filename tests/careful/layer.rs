@@ -144,7 +144,7 @@ impl Ranges {
     }
 }
 
-struct PendingAcks {
+pub struct PendingAcks {
     immediate: bool,
     eliciting: u64,
     silent: u64,
@@ -173,8 +173,15 @@ impl PendingAcks {
         }
     }
 
-    fn can_send(&self) -> bool {
+    pub fn can_send(&self) -> bool {
         self.immediate && !self.ranges.0.is_empty()
+    }
+
+    /// The ranges, the highest first, and how long ago the largest number came.
+    pub fn frame(&self, now: Moment) -> (Vec<(u64, u64)>, Span) {
+        let ranges = self.ranges.0.iter().rev().map(|range| (range.start, range.end - 1));
+        let delay = self.largest.map_or(0, |(_, came)| now.saturating_sub(came));
+        (ranges.collect(), delay.into())
     }
 
     fn insert(&mut self, number: u64, now: Moment) {
@@ -342,14 +349,14 @@ impl EcnCounts {
 pub struct PacketSpace {
     pub discarded: bool,
     dedup: Dedup,
-    acks: PendingAcks,
+    pub acks: PendingAcks,
     rx_packet: u64,
     pub largest_acked: Option<u64>,
     pub largest_acked_sent: Moment,
     pub last_eliciting_time: Option<Moment>,
     pub loss_probes: u32,
     sent_with_keys: u64,
-    pending: Vec<u64>,
+    pub pending: Vec<u64>,
     ping_pending: bool,
     immediate_ack_pending: bool,
     ecn: EcnCounts,
@@ -1019,9 +1026,9 @@ pub enum Sending {
 pub struct Recovery {
     pub spaces: [PacketSpace; 3],
     pub current: Path,
-    previous: Option<Path>,
+    pub previous: Option<Path>,
     /// How many paths were made behind the first one.
-    made: u64,
+    pub made: u64,
     peer_limit: Option<u16>,
     last_frequency: Option<u64>,
     max_ack_delay: Span,

@@ -42,6 +42,8 @@ struct Space {
     loss_time: Option<Nanos>,
     pending: Vec<u64>,
     probes: u32,
+    /// Since when a datagram waits for room in the window.
+    waits: Option<Nanos>,
     is_discarded: bool,
     ecn: [u64; 3],
     acks_acked: u64,
@@ -269,6 +271,9 @@ pub enum Permit {
     Delayed(Nanos),
 }
 
+/// The smallest datagram with an ack-eliciting Initial packet (RFC 9000, 14.1).
+const LEAST_DATAGRAM: u64 = 1200;
+
 pub struct Sender {
     spaces: [Space; 3],
     pub path: Path,
@@ -362,19 +367,43 @@ impl Sender {
         if in_flight && here.probes == 0 {
             let window = path.control.window();
             if path.bytes + u64::from(bytes) > window {
+                if self.waits_for_room(space) && here.waits.is_none() {
+                    self.wait(space, Some(now));
+                }
                 return Ok(Permit::Full);
             }
             let rtt = path.rtt();
             if let Some(until) = path.pacer.delay(rtt, bytes.into(), path.mtu, window, now) {
+                self.wait(space, None);
                 return Ok(Permit::Delayed(until));
             }
         }
         path.pacer.tokens = path.pacer.tokens.saturating_sub(bytes.into());
         path.sent = total;
-        if !path.is_validated {
+        if in_flight {
+            self.wait(space, None);
+        }
+        if !self.path.is_validated {
             self.set_timer();
         }
         Ok(Permit::Transmitted)
+    }
+
+    /// Returns whether a space is probed for while it waits: Data is not before the handshake is confirmed, nor does it
+    /// wait after that.
+    #[inline]
+    fn waits_for_room(&self, space: u8) -> bool {
+        space < 2 && !self.is_confirmed
+    }
+
+    /// Begins or ends the wait of a space.
+    #[inline]
+    fn wait(&mut self, space: u8, since: Option<Nanos>) {
+        let here = &mut self.spaces[space as usize];
+        if here.waits != since {
+            here.waits = since;
+            self.set_timer();
+        }
     }
 
     /// Returns the number, and that of a packet that is forgotten for it.
@@ -482,13 +511,14 @@ impl Sender {
         }
     }
 
-    /// The ranges have the highest first, as on the wire.
+    /// Processes at `now` a frame that was received at `received`. The ranges have the highest first, as on the wire.
     #[allow(clippy::too_many_arguments)]
     #[inline(never)]
     pub fn on_ack(
         &mut self,
         space: u8,
         now: Nanos,
+        received: Nanos,
         delay: Nanos,
         is_limited: bool,
         ecn: Option<[u64; 3]>,
@@ -496,12 +526,13 @@ impl Sender {
         out: &mut Outcome,
     ) -> Result<(), Refused> {
         out.clear();
-        let index = space as usize;
+        let (index, received) = (space as usize, received.min(now));
         let largest = self.check(index, ranges)?;
         let is_limited = is_limited || self.path.is_challenged;
         let here = &mut self.spaces[index];
         let before = here.largest_acked;
         let mut elicits = false;
+        let mut is_ours = false;
         let mut sample = None;
         let (first_slot, len) = (here.first, here.slots.len() as u64);
         let path = &mut self.path;
@@ -532,11 +563,12 @@ impl Sender {
                 if slot.largest != NONE {
                     here.acks_acked = here.acks_acked.max(slot.largest);
                 }
+                is_ours = slot.generation == path.generation;
                 if slot.generation == path.generation {
                     path.bytes -= u64::from(slot.size);
                     path.eliciting -= u64::from(slot.eliciting);
                     if number == largest {
-                        sample = Some(now.saturating_sub(slot.time));
+                        sample = Some(received.saturating_sub(slot.time));
                     }
                     if let Some((_, size)) = probe.filter(|it| space == 2 && it.0 == number) {
                         path.mtu = size;
@@ -576,13 +608,12 @@ impl Sender {
                 path.first_sample = Some((space, here.next));
             }
         }
-        self.look(index, now, true, out);
+        self.look(index, now, received, true, out);
         let rises = self.spaces[index].largest_acked > before;
-        if self.path.sends_ecn {
+        if self.path.sends_ecn && rises {
             match ecn {
                 None => self.path.sends_ecn = false,
-                Some(counts) if rises => self.compare_ecn(index, now, counts, out),
-                _ => {}
+                Some(counts) => self.compare_ecn(index, now, counts, is_ours, out),
             }
         }
         self.is_known |= space == 1;
@@ -629,14 +660,21 @@ impl Sender {
 
     #[cold]
     #[inline(never)]
-    fn compare_ecn(&mut self, index: usize, now: Nanos, counts: [u64; 3], out: &mut Outcome) {
+    fn compare_ecn(
+        &mut self,
+        index: usize,
+        now: Nanos,
+        counts: [u64; 3],
+        is_ours: bool,
+        out: &mut Outcome,
+    ) {
         let here = &mut self.spaces[index];
         if (0..3).any(|it| counts[it] < here.ecn[it]) {
             self.path.sends_ecn = false;
             out.ecn = 2;
             return;
         }
-        if counts[2] > here.ecn[2] {
+        if counts[2] > here.ecn[2] && is_ours {
             out.ecn = 1;
             let sent = here.largest_acked_sent;
             self.path.control.on_congestion(now, sent, false);
@@ -644,9 +682,9 @@ impl Sender {
         here.ecn = counts;
     }
 
-    /// A loss detection pass (RFC 9002, A.10).
+    /// A loss detection pass, which judges the age of packets at `at` (RFC 9002, A.10).
     #[inline]
-    fn look(&mut self, index: usize, now: Nanos, by_ack: bool, out: &mut Outcome) {
+    fn look(&mut self, index: usize, now: Nanos, at: Nanos, by_ack: bool, out: &mut Outcome) {
         let here = &mut self.spaces[index];
         here.loss_time = None;
         let Some(largest) = here.largest_acked else {
@@ -655,7 +693,7 @@ impl Sender {
         if here.first >= largest || here.slots.is_empty() {
             return;
         }
-        self.look_below(index, now, by_ack, out, largest)
+        self.look_below(index, now, at, by_ack, out, largest)
     }
 
     #[cold]
@@ -664,10 +702,12 @@ impl Sender {
         &mut self,
         index: usize,
         now: Nanos,
+        at: Nanos,
         by_ack: bool,
         out: &mut Outcome,
         largest: u64,
     ) {
+        let skipped = self.skip_last.filter(|_| index == 2).unwrap_or(NONE);
         let here = &mut self.spaces[index];
         let path = &mut self.path;
         let longer = path.rtt().max(path.latest);
@@ -675,13 +715,14 @@ impl Sender {
         let to = ((largest - here.first) as usize).min(here.slots.len());
         let (mut last_sent, mut bytes, mut oldest, mut run) = (0, None, None::<Nanos>, NONE);
         let period = 3 * (path.pto() + self.peer_delay);
-        for (at, slot) in here.slots.range_mut(..to).enumerate() {
+        for (place, slot) in here.slots.range_mut(..to).enumerate() {
             if !slot.is_tracked {
                 continue;
             }
-            let number = here.first + at as u64;
+            let number = here.first + place as u64;
             let due = slot.time.saturating_add(delay);
-            if largest - number < 3 && due > now {
+            let has_skip = number < skipped && skipped < largest;
+            if largest - number < 3 + u64::from(has_skip) && due > at {
                 here.loss_time = Some(here.loss_time.map_or(due, |it| it.min(due)));
                 continue;
             }
@@ -743,17 +784,23 @@ impl Sender {
             self.timer = earliest;
             return;
         }
-        if !self.path.is_validated && self.path.sent >= self.path.received.saturating_mul(3) {
+        let least = self.path.sent.saturating_add(LEAST_DATAGRAM);
+        if !self.path.is_validated && least > self.path.received.saturating_mul(3) {
             self.timer = None;
             return;
         }
         let span = self.path.pto();
         let shift = self.count.min(16);
         for (at, here) in self.spaces.iter().enumerate() {
-            if here.eliciting == 0 || (at == 2 && !self.is_confirmed) {
+            if at == 2 && !self.is_confirmed {
                 continue;
             }
-            let Some(time) = here.last_time else { continue };
+            let waits = here.waits.filter(|_| !self.is_confirmed);
+            let from = match here.eliciting {
+                0 => waits.map(|it| it.max(here.last_time.unwrap_or(0))),
+                _ => here.last_time,
+            };
+            let Some(time) = from else { continue };
             let span = if at == 2 {
                 span + self.peer_delay
             } else {

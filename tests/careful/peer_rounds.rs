@@ -27,7 +27,7 @@ fn main() {
         (0..packets).for_each(|_| send(&mut sender, at(round)));
         let ranges = [(round * packets, (round + 1) * packets - 1)];
         sender
-            .on_ack(2, at(round), 0, false, None, &ranges, &mut out)
+            .on_ack(2, at(round), at(round), 0, false, None, &ranges, &mut out)
             .expect("an ACK is processed");
         assert_eq!(out.words.len() as u64, 3 * packets);
     }

@@ -2,8 +2,10 @@
 //! of recovery-sender.
 #[allow(dead_code)]
 mod bytes;
+#[allow(dead_code)]
 mod layer;
 mod lines;
+#[allow(dead_code)]
 mod sending;
 mod skips;
 
@@ -66,19 +68,35 @@ fn read_ack(line: &mut Cursor) -> Option<Call> {
     let (space, now) = (line.space()?, line.number()?);
     let (delay, app_limited) = (line.span()?, line.flag()?);
     let mut ranges = Vec::new();
-    let mut ecn = None;
-    while !line.is_end() {
-        if !ranges.is_empty() && line.input[line.at..].starts_with(b" ecn") {
-            line.at += 4;
-            ecn = Some(EcnCounts { ect0: line.number()?, ect1: line.number()?, ce: line.number()? });
-            break;
-        }
+    while !line.is_end() && (ranges.is_empty() || !is_at(line, b" ecn") && !is_at(line, b" received")) {
         ranges.push((line.number()?, line.number()?));
     }
     if ranges.is_empty() {
         return None;
     }
-    Some(Call::Ack { space, now, ack: Ack { delay, app_limited, ranges, ecn } })
+    let ecn = match skip(line, b" ecn") {
+        true => Some(EcnCounts { ect0: line.number()?, ect1: line.number()?, ce: line.number()? }),
+        false => None,
+    };
+    let received = match skip(line, b" received") {
+        true => Some(line.number()?),
+        false => None,
+    };
+    Some(Call::Ack { space, now, ack: Ack { delay, app_limited, ranges, ecn, received } })
+}
+
+/// Whether the rest of the line begins with this word.
+fn is_at(line: &Cursor, word: &[u8]) -> bool {
+    line.input[line.at..].starts_with(word)
+}
+
+/// Skips a word, if the rest of the line begins with it.
+fn skip(line: &mut Cursor, word: &[u8]) -> bool {
+    let found = is_at(line, word);
+    if found {
+        line.at += word.len();
+    }
+    found
 }
 
 /// Makes a call and writes its answer, without its end.
@@ -87,8 +105,11 @@ fn answer(sender: &mut Sender, call: Call, out: &mut Bytes) -> Result<(), Refusa
         Call::Transmit { space, now, bytes, in_flight } => match sender.transmit(space, now, bytes, in_flight)? {
             Permit::Transmitted => out.text("transmitted"),
             Permit::Blocked => out.text("blocked"),
-            Permit::Full => out.text("full"),
-            Permit::Delayed(until) => out.with("delayed ", until),
+            Permit::Full { ack } => out.one_of(ack, "full ack", "full"),
+            Permit::Delayed { until, ack } => {
+                out.with("delayed ", until);
+                out.text(if ack { " ack" } else { "" });
+            }
         },
         Call::Ack { space, now, ack } => match sender.on_ack(space, now, &ack)? {
             Some(acked) => write_acked(&acked, out),
@@ -96,7 +117,7 @@ fn answer(sender: &mut Sender, call: Call, out: &mut Bytes) -> Result<(), Refusa
         },
         Call::Timeout(now) => match sender.on_timeout(now)? {
             Timeout::Nothing => out.text("nothing"),
-            Timeout::Losses(losses) => {
+            Timeout::Losses(_, losses) => {
                 write_numbers("lost", &losses.numbers, out);
                 write_behind(&losses, out);
             }

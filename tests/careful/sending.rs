@@ -1,12 +1,13 @@
 //! The sending half of a connection over the layer (RFC 9002, Appendices A and B): what is lost, when to probe, whether a datagram
 //! may go out. Moments and spans are nanoseconds, and stop at their greatest values.
 use crate::layer::{
-    BAD_RANGE, EcnCounts, Moment, OVERFLOW, Pacer, Packet, Phase, Recovery, Refusal, Rtt, SPACE_DISCARDED, Sending, Space, Span,
+    BAD_RANGE, EcnCounts, Moment, NO_SUCH_PATH, OVERFLOW, Pacer, Packet, Phase, Recovery, Refusal, Rtt, SPACE_DISCARDED, Sending, Space, Span,
 };
 use crate::lines::{Answer, Event, Reply, apply};
 use crate::skips::Skips;
 
 pub const UNSENT: Refusal = "refused 128 Unsent\n";
+pub const DATA_SPACE: Refusal = "refused 129 DataSpace\n";
 pub const SKIPPED_ACKED: Refusal = "refused 16 SkippedAcked\n";
 
 const SPACES: [Space; 3] = [Space::Initial, Space::Handshake, Space::Data];
@@ -23,6 +24,8 @@ pub struct Ack {
     pub app_limited: bool,
     pub ranges: Vec<(u64, u64)>,
     pub ecn: Option<EcnCounts>,
+    /// When the frame was received, if that was before it was processed.
+    pub received: Option<Moment>,
 }
 
 /// What a look for losses found.
@@ -35,12 +38,15 @@ pub struct Losses {
     pub black_hole: bool,
 }
 
+#[derive(Default)]
 pub enum Ecn {
+    #[default]
     Same,
     Congestion,
     Failed,
 }
 
+#[derive(Default)]
 pub struct Acked {
     pub numbers: Vec<u64>,
     pub losses: Losses,
@@ -50,13 +56,14 @@ pub struct Acked {
 pub enum Permit {
     Transmitted,
     Blocked,
-    Full,
-    Delayed(Moment),
+    /// Whether an ACK is required in the space (RFC 9000, 13.2.1).
+    Full { ack: bool },
+    Delayed { until: Moment, ack: bool },
 }
 
 pub enum Timeout {
     Nothing,
-    Losses(Losses),
+    Losses(Space, Losses),
     Probe(Space, u8),
 }
 
@@ -95,6 +102,7 @@ impl Default for Settings {
 
 pub struct Sender {
     recovery: Recovery,
+    is_client: bool,
     settings: Settings,
     skips: Option<Skips>,
     /// A window that nothing changes.
@@ -113,6 +121,8 @@ pub struct Sender {
     sampled: Moment,
     /// The probes that the last timeout asked for and that were not sent yet (6.2.4).
     probes: Option<(Space, u8)>,
+    /// Since when a datagram of Initial and of Handshake waits for room in the window.
+    waits: [Option<Moment>; 2],
     sending_ecn: bool,
     /// The same of the previous one.
     previous: (Option<(Space, u64)>, bool),
@@ -140,6 +150,7 @@ impl Sender {
         recovery.current.validated = is_client;
         let mut sender = Sender {
             recovery,
+            is_client,
             settings,
             skips,
             window,
@@ -153,6 +164,7 @@ impl Sender {
             first_behind_sample: None,
             sampled: 0,
             probes: None,
+            waits: [None; 2],
             sending_ecn: true,
             previous: (None, true),
         };
@@ -161,9 +173,10 @@ impl Sender {
         sender
     }
 
-    /// Of a connection whose handshake is over.
+    /// A server of a connection whose handshake is over. (Its first path is validated.)
     pub fn established(skips: Option<Skips>, window: Option<u64>, settings: Settings) -> Self {
-        let mut sender = Sender::new(true, skips, window, settings);
+        let mut sender = Sender::new(false, skips, window, settings);
+        sender.recovery.current.validated = true;
         sender.on_handshake_confirmed();
         for space in [Space::Initial, Space::Handshake] {
             let _ = sender.discard(space, 0);
@@ -202,15 +215,64 @@ impl Sender {
         if !self.may_send(bytes) {
             return Ok(Permit::Blocked);
         }
-        let asks = in_flight && self.probes.is_none_or(|(probed, _)| probed != space);
+        let asks = in_flight && !self.is_probe_due(space);
+        let ack = self.is_ack_required(space);
         if asks && u128::from(path.bytes) + u128::from(bytes) > u128::from(path.congestion.window) {
-            return Ok(Permit::Full);
+            self.begin_wait(space, now);
+            return Ok(Permit::Full { ack });
         }
-        Ok(match self.recovery.transmit(now, bytes, asks)? {
+        let permit = match self.recovery.transmit(now, bytes, asks)? {
             Sending::Transmitted => Permit::Transmitted,
-            Sending::Blocked => Permit::Blocked,
-            Sending::Delayed(until) => Permit::Delayed(until),
-        })
+            Sending::Blocked => return Ok(Permit::Blocked),
+            Sending::Delayed(until) => Permit::Delayed { until, ack },
+        };
+        if in_flight {
+            self.end_wait(space);
+        }
+        Ok(permit)
+    }
+
+    /// A datagram of the space finds no room. A space that waits already waits from its first such datagram on.
+    fn begin_wait(&mut self, space: Space, now: Moment) {
+        if let Some(waits) = self.waits.get_mut(space as usize) {
+            waits.get_or_insert(now);
+        }
+    }
+
+    fn end_wait(&mut self, space: Space) {
+        if let Some(waits) = self.waits.get_mut(space as usize) {
+            *waits = None;
+        }
+    }
+
+    /// Whether an ACK must be sent at once in a space (RFC 9000, 13.2.1).
+    pub fn is_ack_required(&self, space: Space) -> bool {
+        self.recovery.spaces[space as usize].acks.can_send()
+    }
+
+    pub fn is_probe_due(&self, space: Space) -> bool {
+        self.probes.is_some_and(|(probed, _)| probed == space)
+    }
+
+    pub fn has_pending(&self, space: Space) -> bool {
+        !self.recovery.spaces[space as usize].pending.is_empty()
+    }
+
+    pub fn take_pending(&mut self, space: Space) -> Result<Vec<u64>, Refusal> {
+        self.recovery.take_pending(space)
+    }
+
+    pub fn window(&self) -> u64 {
+        self.recovery.current.congestion.window
+    }
+
+    /// The ranges of an ACK frame, the highest first, and its ACK delay (RFC 9000, 13.2.5).
+    pub fn frame(&self, space: Space, now: Moment) -> Result<(Vec<(u64, u64)>, Span), Refusal> {
+        let here = &self.recovery.spaces[space as usize];
+        if here.discarded {
+            return Err(SPACE_DISCARDED);
+        }
+        Ok(here.acks.frame(now))
     }
 
     /// Whether the amplification limit lets so many bytes out (RFC 9000, 8.1).
@@ -219,8 +281,24 @@ impl Sender {
         path.validated || u128::from(path.total_sent) + u128::from(bytes) <= 3 * u128::from(path.total_received)
     }
 
-    /// An event that passes through.
+    /// An event that passes through. A path that was never validated gives way to the last one that was: it is no path
+    /// to return to (RFC 9000, 9.3.2).
     pub fn pass(&mut self, event: Event) -> Reply {
+        let is_back = self.recovery.previous.as_ref().is_some_and(|path| path.validated);
+        match event {
+            Event::RevertPath if !is_back => return Err(NO_SUCH_PATH),
+            Event::NewPath { .. } if is_back && !self.recovery.current.validated => {
+                if self.recovery.made == u64::MAX {
+                    return Err(OVERFLOW);
+                }
+                self.passed(Event::RevertPath)?;
+            }
+            _ => {}
+        }
+        self.passed(event)
+    }
+
+    fn passed(&mut self, event: Event) -> Reply {
         let event = match event {
             Event::NewPath { now, fresh } => Event::NewPath { now: now.saturating_sub(1), fresh },
             Event::ResetPath { now } => Event::ResetPath { now: now.saturating_sub(1) },
@@ -267,9 +345,12 @@ impl Sender {
             self.pto_count = 0;
         }
         if moves {
+            // the limit binds those who answer an address that may be another's (RFC 9000, 8.1)
+            self.recovery.current.validated = self.is_client;
             self.previous = (self.first_behind_sample, self.sending_ecn);
             self.sending_ecn = true;
             self.first_behind_sample = self.first_behind_sample.filter(|_| !fresh);
+            self.recovery.current.validated = self.is_client;
         }
         if goes_back {
             (self.first_behind_sample, self.sending_ecn) = self.previous;
@@ -312,7 +393,10 @@ impl Sender {
         if numbers.is_empty() {
             return Ok(None);
         }
-        let sample = self.sample_of(space, now, ack, &numbers);
+        let received = ack.received.map_or(now, |received| received.min(now));
+        let sample = self.sample_of(space, received, ack, &numbers);
+        let newly = numbers.iter().filter(|number| self.is_of_current(space, **number)).count() as u64;
+        let is_ours = numbers.last().is_some_and(|largest| self.is_of_current(space, *largest));
         let before = self.recovery.spaces[space as usize].largest_acked;
         for number in &numbers {
             self.recovery.acked(space, *number, ack.app_limited)?;
@@ -325,13 +409,14 @@ impl Sender {
                 self.sampled = now;
             }
         }
-        let losses = self.look(space, now, true)?;
+        let losses = self.look(space, now, Some(received))?;
         self.knows_validated |= space == Space::Handshake;
         if self.knows_validated {
             self.pto_count = 0;
         }
         let rises = self.recovery.spaces[space as usize].largest_acked > before;
-        let ecn = self.mark(space, now, ack.ecn, rises, numbers.len() as u64);
+        // counts of a frame that came out of order prove nothing (RFC 9000, 13.4.2.1)
+        let ecn = if rises { self.mark(space, now, ack.ecn, newly, is_ours) } else { Ecn::Same };
         self.base = now;
         Ok(Some(Acked { numbers, losses, ecn }))
     }
@@ -354,8 +439,12 @@ impl Sender {
 
     /// Whether the number that was skipped last is in a range (RFC 9000, 21.4).
     fn is_skipped(&self, space: Space, ranges: &[(u64, u64)]) -> bool {
-        let last = self.skips.as_ref().and_then(|skips| skips.last).filter(|_| space == Space::Data);
-        last.is_some_and(|last| ranges.iter().any(|(low, high)| (*low..=*high).contains(&last)))
+        self.last_skipped(space).is_some_and(|last| ranges.iter().any(|(low, high)| (*low..=*high).contains(&last)))
+    }
+
+    /// The number of a space that was skipped last.
+    fn last_skipped(&self, space: Space) -> Option<u64> {
+        self.skips.as_ref().and_then(|skips| skips.last).filter(|_| space == Space::Data)
     }
 
     fn tracked(&self, space: Space, number: u64) -> Option<&Packet> {
@@ -378,18 +467,22 @@ impl Sender {
     }
 
     /// The delay and the round trip that a frame tells of (5.1, 5.3; RFC 9000, 9.4).
-    fn sample_of(&self, space: Space, now: Moment, ack: &Ack, numbers: &[u64]) -> Option<(Span, Span)> {
-        let largest = self.tracked(space, ack.ranges[0].1)?;
-        if largest.generation != self.recovery.current.generation {
-            return None;
-        }
+    fn sample_of(&self, space: Space, received: Moment, ack: &Ack, numbers: &[u64]) -> Option<(Span, Span)> {
+        let largest = self.tracked(space, ack.ranges[0].1).filter(|_| self.is_of_current(space, ack.ranges[0].1))?;
         numbers.iter().find(|number| self.tracked(space, **number).is_some_and(|packet| packet.ack_eliciting))?;
         let delay = if space == Space::Data { ack.delay.min(self.peer_delay) } else { 0 };
-        Some((delay, u128::from(now.saturating_sub(largest.time_sent))))
+        Some((delay, u128::from(received.saturating_sub(largest.time_sent))))
     }
 
-    /// What the counts of a frame say (7.1; RFC 9000, 13.4.2.1).
-    fn mark(&mut self, space: Space, now: Moment, counts: Option<EcnCounts>, rises: bool, newly: u64) -> Ecn {
+    /// Whether a tracked packet was sent on the path in use.
+    fn is_of_current(&self, space: Space, number: u64) -> bool {
+        self.tracked(space, number).is_some_and(|packet| packet.generation == self.recovery.current.generation)
+    }
+
+    /// The effect of the counts of a frame that raised the largest acknowledged number (7.1; RFC 9000, 13.4.2.1). Only the
+    /// packets of the path in use are compared with them, and a mark on another path is no congestion of this one
+    /// (RFC 9000, 9.4).
+    fn mark(&mut self, space: Space, now: Moment, counts: Option<EcnCounts>, newly: u64, is_ours: bool) -> Ecn {
         if !self.sending_ecn {
             return Ecn::Same;
         }
@@ -397,12 +490,9 @@ impl Sender {
             self.sending_ecn = false;
             return Ecn::Same;
         };
-        if !rises {
-            return Ecn::Same;
-        }
         match self.recovery.ecn(space, newly, counts) {
-            Ok(false) => Ecn::Same,
-            Ok(true) => {
+            Ok(marked) if !marked || !is_ours => Ecn::Same,
+            Ok(_) => {
                 let sent = self.recovery.spaces[space as usize].largest_acked_sent;
                 self.recovery.congestion(now.min(LATEST_START), sent, false);
                 Ecn::Congestion
@@ -416,9 +506,10 @@ impl Sender {
 
     // ---- what is lost
 
-    /// Looks for losses in a space (A.10), by an ACK or by the timer.
-    fn look(&mut self, space: Space, now: Moment, by_ack: bool) -> Result<Losses, Refusal> {
-        let lost = self.find_lost(space, now);
+    /// Detects losses in a space (A.10), by an ACK that was received at a time or by the timer. What an ACK that waits to
+    /// be processed may still name is not lost by its age: that is counted up to the time of receipt.
+    fn look(&mut self, space: Space, now: Moment, by_ack: Option<Moment>) -> Result<Losses, Refusal> {
+        let lost = self.find_lost(space, by_ack.unwrap_or(now));
         let mut found = Losses::default();
         for packet in lost.iter().filter(|packet| !packet.probe) {
             self.recovery.lost(space, packet.number)?;
@@ -429,7 +520,7 @@ impl Sender {
         }
         let counted = || lost.iter().filter(|packet| packet.counts);
         if let Some(latest) = counted().map(|packet| packet.sent).max() {
-            let persists = by_ack && self.persists(space, &lost);
+            let persists = by_ack.is_some() && self.persists(space, &lost);
             // later than every recovery began, so that the window falls to its least (7.6.2)
             let sent = if persists { Moment::MAX } else { latest };
             self.recovery.congestion(now.min(LATEST_START), sent, persists);
@@ -461,12 +552,15 @@ impl Sender {
             _ => None,
         };
         let largest = here.largest_acked.unwrap_or(0);
+        let skipped = self.last_skipped(space);
         let mut lost = Vec::new();
         let mut next: Option<Moment> = None;
         for (number, slot) in (here.packets.first..largest).zip(&here.packets.slots) {
             let Some(packet) = slot else { continue };
             let due = later(packet.time_sent, delay);
-            if number.saturating_add(self.settings.packets.max(1)) > largest && due > now {
+            // a number that was never sent is no packet (6.1.1)
+            let later_packets = largest - number - u64::from(skipped.is_some_and(|skipped| number < skipped && skipped < largest));
+            if later_packets < self.settings.packets.max(1) && due > now {
                 next = Some(next.map_or(due, |least| least.min(due)));
                 continue;
             }
@@ -490,7 +584,7 @@ impl Sender {
             return false;
         };
         let period = u128::from(self.settings.periods.max(1)) * (probe_timeout(&self.recovery.current.rtt) + self.peer_delay);
-        let skipped = self.skips.as_ref().and_then(|skips| skips.last).filter(|_| space == Space::Data);
+        let skipped = self.last_skipped(space);
         let mut run: Option<(u64, Option<Moment>)> = None;
         for packet in lost {
             let follows = |last: u64| (last + 1..packet.number).all(|number| skipped == Some(number));
@@ -522,9 +616,7 @@ impl Sender {
         if let Some((moment, space)) = probes.min_by_key(|(moment, _)| *moment) {
             return Some((moment, Due::Probes(space)));
         }
-        let in_data = &self.recovery.spaces[Space::Data as usize];
-        let fills = !in_data.discarded && in_data.packets.slots.iter().flatten().any(|packet| packet.ack_eliciting);
-        if self.knows_validated && (self.confirmed || !fills) {
+        if self.knows_validated {
             return None;
         }
         let lives = |space: Space| !self.recovery.spaces[space as usize].discarded;
@@ -532,14 +624,20 @@ impl Sender {
         lives(space).then(|| (later(self.base, self.probe_span(space)), Due::Probe(space)))
     }
 
-    /// When a probe is due for what a space has in flight.
+    /// When a probe is due for what a space has in flight or, until the handshake is confirmed, for what waits in Initial
+    /// or Handshake for room in the window. The peer may be unable to read the packets that fill the window.
     fn probe_at(&self, space: Space) -> Option<Moment> {
         if space == Space::Data && !self.confirmed {
             return None;
         }
         let here = &self.recovery.spaces[space as usize];
-        here.packets.slots.iter().flatten().find(|packet| packet.ack_eliciting)?;
-        Some(later(here.last_eliciting_time?, self.probe_span(space)))
+        let is_in_flight = here.packets.slots.iter().flatten().any(|packet| packet.ack_eliciting);
+        let waits = self.waits.get(space as usize).copied().flatten().filter(|_| !self.confirmed);
+        let from = match is_in_flight {
+            true => here.last_eliciting_time?,
+            false => waits?.max(here.last_eliciting_time.unwrap_or(0)),
+        };
+        Some(later(from, self.probe_span(space)))
     }
 
     fn probe_span(&self, space: Space) -> Span {
@@ -554,11 +652,14 @@ impl Sender {
         };
         self.base = now;
         let (space, probes) = match due {
-            Due::Losses(space) => return Ok(Timeout::Losses(self.look(space, now, false)?)),
+            Due::Losses(space) => return Ok(Timeout::Losses(space, self.look(space, now, None)?)),
             Due::Probes(space) => (space, 2),
             Due::Probe(space) => (space, 1),
         };
         self.probes = Some((space, probes));
+        for waits in &mut self.waits {
+            *waits = waits.map(|_| now);
+        }
         self.pto_count = self.pto_count.saturating_add(1);
         Ok(Timeout::Probe(space, probes))
     }
@@ -585,6 +686,9 @@ impl Sender {
     }
 
     pub fn discard(&mut self, space: Space, now: Moment) -> Result<(), Refusal> {
+        if space == Space::Data {
+            return Err(DATA_SPACE);
+        }
         self.recovery.discard(space)?;
         self.begin_anew(space, now);
         Ok(())
@@ -608,5 +712,6 @@ impl Sender {
         self.pto_count = 0;
         self.base = now;
         self.probes = self.probes.filter(|(probed, _)| *probed != space);
+        self.end_wait(space);
     }
 }

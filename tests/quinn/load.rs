@@ -265,3 +265,53 @@ fn gone_back() {
     println!("load: rtt in ms and window: {before:?} before, {meanwhile:?} meanwhile, {after:?} after");
     assert_eq!(before, after);
 }
+
+/// A peer that seems to move twice, and is not heard of at either new address: the server goes back to the address that
+/// was validated last (RFC 9000, 9.3.2), and sends there as fast as before.
+#[test]
+fn gone_back_twice() {
+    let mut server = server_config();
+    server.transport = reno();
+    let mut pair = Pair::new(Default::default(), server);
+    pair.latency = Duration::from_millis(10);
+    pair.client.addr = SocketAddr::new(Ipv4Addr::LOCALHOST.into(), pair.client.addr.port());
+    let (client_ch, server_ch) = pair.connect();
+    let s = pair.server_streams(server_ch).open(Dir::Uni).unwrap();
+    let mut piece = |pair: &mut Pair| {
+        let (began, mut left) = (pair.time, 20_000);
+        while left > 0 {
+            left -= pair.server_send(server_ch, s).write(&[7; 20_000][..left]).unwrap_or(0);
+            pair.drive();
+            let mut recv = pair.client_recv(client_ch, s);
+            if let Ok(mut chunks) = recv.read(true) {
+                while let Ok(Some(_)) = chunks.next(usize::MAX) {}
+                let _ = chunks.finalize();
+            };
+        }
+        pair.time - began
+    };
+    for _ in 0..20 {
+        piece(&mut pair);
+    }
+    let (before, old) = (piece(&mut pair), pair.client.addr);
+    for _ in 0..2 {
+        let port = CLIENT_PORTS.lock().unwrap().next().unwrap();
+        pair.client.addr = SocketAddr::new(Ipv4Addr::LOCALHOST.into(), port);
+        pair.client_conn_mut(client_ch).ping();
+        pair.drive_client();
+        pair.time += pair.latency;
+        pair.drive_server();
+        pair.client.inbound.clear();
+        assert_eq!(pair.server_conn_mut(server_ch).remote_address(), pair.client.addr);
+    }
+    while pair.server_conn_mut(server_ch).remote_address() != old {
+        pair.client.inbound.clear();
+        pair.time = pair.server.next_wakeup().unwrap();
+        pair.drive_server();
+        assert!(!pair.server_conn_mut(server_ch).is_closed());
+    }
+    pair.client.addr = old;
+    let after = piece(&mut pair);
+    println!("load: 20,000 bytes in {before:?} before, {after:?} after");
+    assert!(after < 4 * before);
+}

@@ -55,6 +55,7 @@ struct Own {
     is_server: bool,
     max_ack_delay: Duration,
     pto_count: u32,
+    waits: [Option<Instant>; 3],
     has_handshake_keys: bool,
     is_confirmed: bool,
     is_address_known: bool,
@@ -127,7 +128,10 @@ impl Sender {
         in_flight: bool,
     ) -> Result<qr::Transmission, SenderError> {
         let sent = self.compare().transmit(now, bytes, space, in_flight)?;
-        self.own.transmitted(bytes);
+        self.own.asked(now, space, in_flight, sent);
+        if sent == qr::Transmission::Transmitted {
+            self.own.transmitted(bytes);
+        }
         Ok(sent)
     }
 
@@ -159,14 +163,14 @@ impl Sender {
     pub fn discard(&mut self, space: qr::SpaceId, now: qr::Instant) -> Result<(), SenderError> {
         self.compare().discard(space, now)?;
         self.own.discarded(space);
-        self.own.begin_anew(now);
+        self.own.begin_anew(space, now);
         Ok(())
     }
 
     pub fn retransmit_all(&mut self, space: qr::SpaceId, now: qr::Instant) -> Result<qr::Retransmitted, SenderError> {
         let all = self.compare().retransmit_all(space, now)?;
         self.own.sent_in_vain(space, &all.numbers);
-        self.own.begin_anew(now);
+        self.own.begin_anew(space, now);
         Ok(all)
     }
 
@@ -225,6 +229,7 @@ impl Own {
             is_server: side == qr::Side::Server,
             max_ack_delay: Duration::from_millis(25),
             pto_count: 0,
+            waits: [None; 3],
             has_handshake_keys: false,
             is_confirmed: false,
             is_address_known: false,
@@ -391,8 +396,21 @@ impl Own {
         Some((packet, on))
     }
 
-    fn begin_anew(&mut self, now: qr::Instant) {
+    fn begin_anew(&mut self, space: qr::SpaceId, now: qr::Instant) {
         (self.pto_count, self.base) = (0, self.at(now));
+        self.waits[space as usize] = None;
+    }
+
+    /// A space waits from the first datagram in flight that finds no room in the window to the next one that does
+    fn asked(&mut self, now: qr::Instant, space: qr::SpaceId, in_flight: bool, sent: qr::Transmission) {
+        let now = self.at(now);
+        let waits = &mut self.waits[space as usize];
+        match sent {
+            qr::Transmission::Full { .. } => *waits = waits.or(Some(now)),
+            qr::Transmission::Blocked => {}
+            _ if in_flight => *waits = None,
+            _ => {}
+        }
     }
 
     /// When the timer for losses is due (RFC 9002, 6.2 and A.8)
@@ -400,7 +418,7 @@ impl Own {
         let lives = |it: &usize| !self.discarded[*it];
         let lost = (0..3).filter(lives).filter_map(|it| self.spaces[it].loss_time).min();
         let path = &self.paths[self.current];
-        if lost.is_some() || !path.validated && 3 * path.total_recvd < path.total_sent + 1 {
+        if lost.is_some() || !path.validated && 3 * path.total_recvd < path.total_sent + 1200 {
             return lost;
         }
         let span = |it: usize| {
@@ -408,14 +426,17 @@ impl Own {
             (path.rtt.pto_base() + late) * 2u32.pow(self.pto_count.min(16))
         };
         let probe = |it: usize| {
-            let here = &self.spaces[it];
-            let is_due = here.sent_packets.values().any(|it| it.ack_eliciting) && (it < 2 || self.is_confirmed);
-            Some(here.time_of_last_ack_eliciting_packet.filter(|_| is_due)? + span(it))
+            let (here, is_open) = (&self.spaces[it], it < 2 && !self.is_confirmed);
+            let last = here.time_of_last_ack_eliciting_packet;
+            let from = match here.sent_packets.values().any(|it| it.ack_eliciting) {
+                true => last.filter(|_| it < 2 || self.is_confirmed)?,
+                false => self.waits[it].filter(|_| is_open)?.max(last.unwrap_or(self.epoch)),
+            };
+            Some(from + span(it))
         };
         let probes = (0..3).filter(lives).filter_map(probe).min();
         let space = usize::from(self.has_handshake_keys && !self.discarded[1]);
-        let fills = !self.discarded[2] && !self.is_confirmed && self.spaces[2].sent_packets.values().any(|it| it.ack_eliciting);
-        let is_stuck = (!self.is_server && !self.is_address_known || fills) && !self.discarded[space];
+        let is_stuck = !self.is_server && !self.is_address_known && !self.discarded[space];
         probes.or(is_stuck.then(|| self.base + span(space)))
     }
 
@@ -468,7 +489,10 @@ impl Own {
                     self.lost(space, now, losses);
                 }
             }
-            qr::Timeout::Probe { .. } => (self.pto_count, self.base) = (self.pto_count + 1, now),
+            qr::Timeout::Probe { .. } => {
+                (self.pto_count, self.base) = (self.pto_count + 1, now);
+                self.waits = self.waits.map(|it| it.map(|_| now));
+            }
             _ => {}
         }
     }
@@ -506,7 +530,7 @@ impl Own {
             self.pto_count = 0;
         }
         let (largest, current) = (ranges[0].1, self.current);
-        let (mut elicits, mut sample) = (false, None);
+        let (mut elicits, mut sample, mut ours, mut is_ours) = (false, None, 0, false);
         for &number in &told.numbers {
             let Some((packet, on)) = self.leaves(space, number) else { continue };
             if let Some(acked) = packet.largest_acked {
@@ -514,6 +538,8 @@ impl Own {
                 acks.subtract_below(acked);
             }
             elicits |= packet.ack_eliciting;
+            is_ours = on == current;
+            ours += u64::from(is_ours);
             if number == largest {
                 sample = (on == current).then(|| now - packet.time_sent);
                 if raised {
@@ -536,26 +562,29 @@ impl Own {
             self.path().rtt.update(ack.delay.min(most), rtt);
         }
         self.lost(space, now, &told.losses);
-        if self.path().sending_ecn {
-            self.counted(space, now, ack, raised, told);
+        if self.path().sending_ecn && raised {
+            self.counted(space, now, ack, (ours, is_ours), told);
         }
     }
 
-    /// The counts of ECN of a frame
-    fn counted(&mut self, space: qr::SpaceId, now: Instant, ack: &qr::Ack, raised: bool, told: &qr::Acknowledged) {
+    /// The counts of ECN of a frame, of which so many packets were sent on the current path, the largest one or not
+    fn counted(
+        &mut self,
+        space: qr::SpaceId,
+        now: Instant,
+        ack: &qr::Ack,
+        (newly, is_ours): (u64, bool),
+        told: &qr::Acknowledged,
+    ) {
         let Some(qr::EcnCounts { ect0, ect1, ce }) = ack.ecn else {
             self.path().sending_ecn = false;
             return;
         };
-        if !raised {
-            return;
-        }
         let it = &mut self.spaces[space as usize];
         let sent = it.largest_acked_packet_sent;
-        let newly = told.numbers.len() as u64;
         let own = match it.detect_ecn(newly, frame::EcnCounts { ect0, ect1, ce }) {
-            Ok(false) => qr::EcnOutcome::Quiet,
-            Ok(true) => qr::EcnOutcome::Marked,
+            Ok(marked) if !marked || !is_ours => qr::EcnOutcome::Quiet,
+            Ok(_) => qr::EcnOutcome::Marked,
             Err(_) => qr::EcnOutcome::Failed,
         };
         self.same("ecn", own, told.ecn);
@@ -677,7 +706,14 @@ impl Own {
                 let path = self.path();
                 path.mtu = path.mtu.min(size);
             }
-            Event::NewPath { now, fresh, .. } => self.new_path(self.at(now), fresh),
+            Event::NewPath { now, fresh, .. } => {
+                let is_back = self.previous.map_or(false, |it| self.paths[it].validated);
+                if is_back && !self.path().validated {
+                    self.current = self.previous.take().unwrap_or(self.current);
+                }
+                self.new_path(self.at(now), fresh);
+                self.path().validated = !self.is_server;
+            }
             Event::RevertPath => self.current = self.previous.take().unwrap_or(self.current),
             _ => {}
         }

@@ -269,6 +269,21 @@ impl Proved {
         }
     }
 
+    /// Whether the window has no room for so many bytes. The sender is asked too, since it probes for a space that waits
+    /// for room. What goes out is counted later, so nothing is where there is room.
+    pub fn is_full(&mut self, now: Instant, space: SpaceId, bytes: u64) -> bool {
+        let (window, in_flight) = self.window_and_flight();
+        let is_full = in_flight + bytes > window;
+        let (now, asked) = (self.at(now), if is_full { bytes.min(u16::MAX.into()) as u16 } else { 0 });
+        let _ = self.counting().transmit(now, asked, space_of(space), true);
+        is_full
+    }
+
+    /// Whether packets of the current path are marked
+    pub fn sending_ecn(&self) -> bool {
+        self.sender.recovery().marks(PathName::Current).map_or(true, |it| it.sending_ecn)
+    }
+
     /// A datagram goes out that had room
     pub fn transmitted(&mut self, now: Instant, bytes: usize) {
         let now = self.at(now);
