@@ -277,7 +277,7 @@ fn gone_back_twice() {
     pair.client.addr = SocketAddr::new(Ipv4Addr::LOCALHOST.into(), pair.client.addr.port());
     let (client_ch, server_ch) = pair.connect();
     let s = pair.server_streams(server_ch).open(Dir::Uni).unwrap();
-    let mut piece = |pair: &mut Pair| {
+    let piece = |pair: &mut Pair| {
         let (began, mut left) = (pair.time, 20_000);
         while left > 0 {
             left -= pair.server_send(server_ch, s).write(&[7; 20_000][..left]).unwrap_or(0);

@@ -73,8 +73,16 @@ static void glue_losses(struct glue *it, uint8_t space) {
     }
 }
 
+// A handshake packet found room, so its space does not wait for that any more.
+static void glue_has_room(struct glue *it, uint8_t space, uint64_t now, bool elicits) {
+    if (elicits && space != RECOVERY_SPACE_DATA) {
+        recovery_ffi_sender_transmit(&it->handle, now, 0, space, true);
+    }
+}
+
 // A packet is sent in a datagram that may be sent: its item is its own number.
 static void glue_send(struct glue *it, uint8_t space, uint64_t now, uint16_t size, bool elicits, uint64_t item) {
+    glue_has_room(it, space, now, elicits);
     it->reply = recovery_ffi_sender_transmit(&it->handle, now, size, space, false);
     if (it->reply.kind == RECOVERY_ANSWER_TRANSMITTED) {
         it->reply = recovery_ffi_send(&it->handle, space, now, elicits ? size : 0, elicits, false, 0, &item, elicits);
@@ -124,13 +132,20 @@ static void glue_timeout(struct glue *it, uint64_t now) {
     }
 }
 
-// Takes what a probe carries.
-static void glue_probe(struct glue *it, uint8_t space) {
+// Takes what a probe carries, which needs no room.
+static void glue_probe(struct glue *it, uint8_t space, uint64_t now) {
     it->items.len = 0;
+    glue_has_room(it, space, now, true);
     it->reply = recovery_ffi_sender_probe(&it->handle, space, false);
     if (it->reply.kind == RECOVERY_ANSWER_QUEUE) {
         glue_items(it);
     }
+    glue_read(it);
+}
+
+// A handshake packet finds no room in the window for a datagram of this size.
+static void glue_wait(struct glue *it, uint8_t space, uint64_t now, uint16_t size) {
+    it->reply = recovery_ffi_sender_transmit(&it->handle, now, size, space, true);
     glue_read(it);
 }
 

@@ -359,7 +359,7 @@ func (o *over) OnLossDetectionTimeout() error {
 func (o *over) QueueProbePacket(level protocol.EncryptionLevel) bool {
 	space := spaceOf(level)
 	o.c.lost.len = 0
-	C.glue_probe(o.c, C.uint8_t(space))
+	C.glue_probe(o.c, C.uint8_t(space), o.nanos(time.Now()))
 	o.done()
 	return o.again(space, true)
 }
@@ -384,6 +384,16 @@ func (o *over) SendMode() SendMode {
 		return SendAck
 	}
 	return SendAny
+}
+
+// Waiting asks for a packet of the handshake that SendMode may hold back, so that the library probes for its space.
+func Waiting(h SentPacketHandler, level protocol.EncryptionLevel, waits bool) {
+	o, ok := h.(*over)
+	if !ok || !waits || o.packets[spaceOf(level)] == nil || o.c.view.window_room >= C.uint64_t(o.size) {
+		return
+	}
+	C.glue_wait(o.c, C.uint8_t(spaceOf(level)), o.nanos(time.Now()), C.uint16_t(o.size))
+	o.done()
 }
 
 // HasPacingBudget does not ask the library while the tokens that it read last are enough: time only adds to them.

@@ -104,6 +104,40 @@ func TestOver(t *testing.T) {
 	}
 }
 
+// TestWaiting fills the window with 1-RTT packets before the handshake is confirmed. A Handshake packet that finds no
+// room has no timer then (RFC 9002, 6.2.1), until it is asked for: the library probes for its space.
+func TestWaiting(t *testing.T) {
+	o := newOver(0, 1252, &utils.RTTStats{}, true, protocol.PerspectiveServer)
+	nothing := func(wire.Frame) {}
+	send := func(level protocol.EncryptionLevel) {
+		o.SentPacket(&Packet{
+			PacketNumber: o.PopPacketNumber(level), Length: 1252, EncryptionLevel: level, SendTime: time.Now(),
+			LargestAcked: protocol.InvalidPacketNumber,
+			Frames:       []Frame{{Frame: &wire.PingFrame{}, OnAcked: nothing, OnLost: nothing}},
+		})
+	}
+	o.DropPackets(protocol.EncryptionInitial)
+	for o.SendMode() == SendAny {
+		send(protocol.Encryption1RTT)
+	}
+	Waiting(o, protocol.EncryptionInitial, true)
+	Waiting(o, protocol.EncryptionHandshake, false)
+	if o.SendMode() != SendAck || !o.GetLossDetectionTimeout().IsZero() {
+		t.Fatal("a space waits that has nothing to send")
+	}
+	Waiting(o, protocol.EncryptionHandshake, true)
+	time.Sleep(time.Until(o.GetLossDetectionTimeout()))
+	if o.OnLossDetectionTimeout(); o.SendMode() != SendPTOHandshake {
+		t.Fatal("no probe is due")
+	}
+	o.QueueProbePacket(protocol.EncryptionHandshake)
+	send(protocol.EncryptionHandshake)
+	send(protocol.EncryptionHandshake)
+	if o.SendMode() != SendAck || o.GetLossDetectionTimeout().IsZero() {
+		t.Fatal("the probes have no timer")
+	}
+}
+
 // BenchmarkCross is a call from Go to C and back.
 func BenchmarkCross(b *testing.B) {
 	o := newOver(0, 1252, &utils.RTTStats{}, true, protocol.PerspectiveServer)

@@ -58,9 +58,8 @@ func aligned(bit int) bool { return alignment&bit != 0 }
 
 // shadowed is what the shadow has of a handler beside its own state.
 type shadowed struct {
-	at        time.Time // of the call that is being made
-	lost      []protocol.PacketNumber
-	restarted time.Time // the timer against a deadlock, at a server
+	at   time.Time // of the call that is being made
+	lost []protocol.PacketNumber
 }
 
 func (s *shadowed) now() time.Time {
@@ -79,10 +78,14 @@ func anyElicits(packets []*Packet) bool {
 	return false
 }
 
-// rfcPTO is GetPtoTimeAndSpace of A.8. With nothing but 0-RTT in flight a client waits as with nothing (6.2.2.1), and
-// so does each endpoint whose handshake is not confirmed, which the RFC does not have: else neither has a timer once
-// 1-RTT packets fill the window.
+const leastDatagram = 1200
+
+// rfcPTO is GetPtoTimeAndSpace of A.8. With nothing but 0-RTT in flight a client waits as with nothing (6.2.2.1). A
+// server has no timer while it may not send a datagram of 1200 bytes (6.2.2.1; RFC 9000, 14.1).
 func (h *sentPacketHandler) rfcPTO() (pto time.Time, level protocol.EncryptionLevel, deadlock, ok bool) {
+	if !h.peerAddressValidated && h.bytesSent+leastDatagram > amplificationFactor*h.bytesReceived {
+		return
+	}
 	try := func(space *packetNumberSpace, its protocol.EncryptionLevel) {
 		if space == nil || !space.history.HasOutstandingPackets() {
 			return
@@ -97,11 +100,7 @@ func (h *sentPacketHandler) rfcPTO() (pto time.Time, level protocol.EncryptionLe
 	if h.handshakeConfirmed {
 		try(h.appDataPackets, protocol.Encryption1RTT)
 	}
-	if ok {
-		return
-	}
-	waits := !h.handshakeConfirmed && h.appDataPackets.history.HasOutstandingPackets()
-	if h.peerCompletedAddressValidation && !waits {
+	if ok || h.peerCompletedAddressValidation {
 		return
 	}
 	switch {
@@ -112,11 +111,7 @@ func (h *sentPacketHandler) rfcPTO() (pto time.Time, level protocol.EncryptionLe
 	default:
 		return
 	}
-	from := h.now()
-	if h.perspective == protocol.PerspectiveServer { // which the RFC does not have
-		from = h.restarted
-	}
-	return from.Add(h.rttStats.PTO(false) << h.ptoCount), level, true, true
+	return h.now().Add(h.rttStats.PTO(false) << h.ptoCount), level, true, true
 }
 
 // hasHandshakeKeys says whether a Handshake packet was sent: before, the handler does not know of keys.

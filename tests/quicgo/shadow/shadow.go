@@ -97,7 +97,6 @@ func newShadow(h *sentPacketHandler, size protocol.ByteCount, validated bool, pe
 		s.reno = newReno(uint64(size), now, s.smoothed, h.now)
 		h.congestion = s.reno
 	}
-	h.restarted = now
 	s.sync()
 	for at := range s.dummies {
 		s.dummies[at] = map[uint64]bool{}
@@ -235,6 +234,9 @@ func (s *shadow) compareTokens(path C.struct_recovery_path_view) {
 }
 
 func (s *shadow) compareTimer(call string) {
+	if aligned(alPTO) && !s.peerAddressValidated { // each datagram changes the room below the limit
+		s.setLossDetectionTimer()
+	}
 	timer := C.recovery_ffi_timer(s.handle, C.RECOVERY_TIMER_LOSS_DETECTION)
 	alarm := s.GetLossDetectionTimeout()
 	atomic.AddInt64(&values, 1)
@@ -302,9 +304,6 @@ func (s *shadow) SentPacket(p *Packet) {
 	}
 	elicits := len(p.Frames) > 0
 	number, length := uint64(p.PacketNumber), p.Length
-	if elicits {
-		s.restarted = p.SendTime
-	}
 	s.sentPacketHandler.SentPacket(p)
 	for s.next[space] < number {
 		s.dummy(space, p.SendTime)
@@ -344,12 +343,7 @@ func (s *shadow) ReceivedAck(ack *wire.AckFrame, level protocol.EncryptionLevel,
 	s.begin(at)
 	space, limited := spaceOf(level), s.isLimited()
 	s.ackedPackets = s.ackedPackets[:0]
-	before := s.restarted
-	s.restarted = at
 	is1RTT, err := s.sentPacketHandler.ReceivedAck(ack, level, at)
-	if len(s.ackedPackets) == 0 {
-		s.restarted = before
-	}
 	frame := C.struct_recovery_ack_frame{
 		delay_secs: C.uint64_t(ack.DelayTime / time.Second), delay_nanos: C.uint32_t(ack.DelayTime % time.Second),
 		app_limited: C.bool(limited),
@@ -432,7 +426,6 @@ func (s *shadow) OnLossDetectionTimeout() error {
 		before = 0
 	}
 	lossTime, lossLevel := s.getLossTimeAndSpace()
-	s.restarted = now
 	err := s.sentPacketHandler.OnLossDetectionTimeout()
 	reply := s.must("timeout", C.recovery_ffi_sender_on_timeout(s.handle, s.nanos(now)))
 	theirs := "nothing"
@@ -499,9 +492,6 @@ func (s *shadow) ReceivedPacket(level protocol.EncryptionLevel) {
 func (s *shadow) DropPackets(level protocol.EncryptionLevel) {
 	now := time.Now()
 	s.begin(now)
-	if !s.client {
-		s.restarted = now
-	}
 	s.sentPacketHandler.DropPackets(level)
 	switch {
 	case s.client && level == protocol.EncryptionInitial:

@@ -714,7 +714,7 @@ impl Own {
                 self.new_path(self.at(now), fresh);
                 self.path().validated = !self.is_server;
             }
-            Event::RevertPath => self.current = self.previous.take().unwrap_or(self.current),
+            Event::RevertPath if answer.is_ok() => self.current = self.previous.take().unwrap_or(self.current),
             _ => {}
         }
     }

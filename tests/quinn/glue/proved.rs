@@ -54,6 +54,15 @@ impl Acks {
     }
 }
 
+/// What holds a datagram back
+#[derive(Clone, Copy, PartialEq)]
+pub(super) enum Held {
+    /// The window is full
+    Full,
+    /// The pacer delays it
+    Until(Instant),
+}
+
 pub(super) struct Proved {
     pub sender: Sender,
     /// The moment that the library knows as its nanosecond 0
@@ -242,9 +251,9 @@ impl Proved {
         let _ = self.changing().on_event(Event::NewPath { now, remote, fresh });
     }
 
-    /// The path before the current one is used again
-    pub fn revert_path(&mut self) {
-        let _ = self.changing().on_event(Event::RevertPath);
+    /// The path before the current one is used again, if it was validated (RFC 9000, 9.3.2)
+    pub fn revert_path(&mut self) -> bool {
+        self.changing().on_event(Event::RevertPath).is_ok()
     }
 
     pub fn peer_limit(&mut self, size: u16) {
@@ -261,7 +270,7 @@ impl Proved {
     }
 
     /// When so many bytes may go out, where that is not now
-    pub fn pace(&mut self, now: Instant, bytes: u64) -> Option<Instant> {
+    fn pace(&mut self, now: Instant, bytes: u64) -> Option<Instant> {
         let now = self.at(now);
         match self.sender.on_event(Event::PacerCheck { now, bytes }) {
             Ok(Answer::Delayed(moment)) => Some(self.moment(moment)),
@@ -269,14 +278,25 @@ impl Proved {
         }
     }
 
-    /// Whether the window has no room for so many bytes. The sender is asked too, since it probes for a space that waits
-    /// for room. What goes out is counted later, so nothing is where there is room.
-    pub fn is_full(&mut self, now: Instant, space: SpaceId, bytes: u64) -> bool {
+    /// What holds so many bytes back. The sender is asked only while no packet is built, since that may be its probe.
+    pub fn held(&mut self, now: Instant, space: SpaceId, bytes: u64, asks: bool) -> Option<Held> {
         let (window, in_flight) = self.window_and_flight();
         let is_full = in_flight + bytes > window;
-        let (now, asked) = (self.at(now), if is_full { bytes.min(u16::MAX.into()) as u16 } else { 0 });
-        let _ = self.counting().transmit(now, asked, space_of(space), true);
-        is_full
+        if asks {
+            self.ask(now, space, if is_full { bytes.min(u16::MAX.into()) as u16 } else { 0 });
+        }
+        match is_full {
+            true => Some(Held::Full),
+            false => self.pace(now, bytes).map(Held::Until),
+        }
+    }
+
+    /// The sender probes for a space that waits for room, so it is asked too. What goes out is counted later: if there
+    /// is room, it is asked for 0 bytes.
+    fn ask(&mut self, now: Instant, space: SpaceId, bytes: u16) {
+        let now = self.at(now);
+        let sent = self.counting().transmit(now, bytes, space_of(space), true);
+        debug_assert!(bytes == 0 || sent != Ok(qr::Transmission::Transmitted), "a probe is due");
     }
 
     /// Whether packets of the current path are marked
@@ -371,8 +391,12 @@ impl Proved {
     /// The timer for losses may be due
     pub fn on_timeout(&mut self, now: Instant) -> qr::Timeout {
         let now = self.at(now);
-        let told = self.sender.on_timeout(now);
-        told.unwrap_or(qr::Timeout::Nothing)
+        let told = self.sender.on_timeout(now).unwrap_or(qr::Timeout::Nothing);
+        if let qr::Timeout::Probe { space, .. } = told {
+            // A probe needs no room, so its space does not wait for that any more
+            let _ = self.counting().transmit(now, 0, space, true);
+        }
+        told
     }
 
     /// The keys of packets whose frames a probe carries; a probe without any is a PING
